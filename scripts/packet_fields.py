@@ -6,7 +6,7 @@ from typing import NamedTuple
 from heard import Bytes, Cut
 
 LONG_ROW = 0x80  # in the distance of a row: it has a range
-REQUEST, RESPONSE = 1, 2  # functions of ATP
+NO_FUNCTION, REQUEST, RESPONSE = 0, 1, 2  # functions of ATP
 ONCE = 0x20  # in the control byte of ATP
 ZIP_SOCKET = 6
 ZONE_LISTS = (7, 8, 9)  # requests for the asker's zone, for all zones, and for those of the cable
@@ -175,7 +175,8 @@ ZIP = {1: zone_query, 2: zone_reply, 5: cable_question, 6: cable_info, 8: zone_r
 
 def transaction(read, source, target, asked):
     """A packet of ATP. Its data are known where they ask for a list of zones, or answer that. tshark takes all packets with the
-    same two ends and the same number for those of one transaction, which is what its first request asks for."""
+    same two ends and the same number for those of one transaction, which is what its first request asks for, and a packet
+    without a function for a request."""
     read.protocols.append("atp")
     control = read.whole("atp.ctrlinfo")
     function = control >> 6
@@ -186,9 +187,10 @@ def transaction(read, source, target, asked):
     number = read.whole("atp.tid", 2)
     read.need(read.left() >= 4)
     read.rely()
-    if function == REQUEST and target.socket == ZIP_SOCKET:
+    if function in (NO_FUNCTION, REQUEST) and target.socket == ZIP_SOCKET:
         list_function = read.data[read.place]
         read.need(asked.setdefault((source, target, number), list_function) == list_function)
+        read.need(function == REQUEST)
         zone_list_request(read)
     else:
         read.need(function == RESPONSE and asked.get((target, source, number)) in ZONE_LISTS)

@@ -1,5 +1,5 @@
 -- The first element of a list that passes, found by a scan.
-use Rattle.std.proofs.Common.{◌≡◌, ℕ, ◌<◌, ◌≤◌, inl, inr, Bool, false, List, Some, length, get_or, sym, ap, ◌∙◌, subst}
+use Rattle.std.proofs.Common.{◌≡◌, ℕ, ◌<◌, ◌≤◌, inl, inr, Bool, true, false, List, Some, length, get_or, sym, ap, ◌∙◌, subst}
 use Rattle.std.proofs.Common.{slice_get}
 use Rattle.std.proofs.lemmas.Option.{slice_get_past, slice_get-get_or}
 use Rattle.std.proofs.lemmas.Bool.{cases_lt}
@@ -24,6 +24,14 @@ part_at xs r x parts k y test b at there t =
 -- the element of a loop over ys, which is xs, is the one with its index
 pub item_at : {X : Type 0} (xs ys : List X) (k : ℕ) (x : X) → ys ≡ xs → k < length ys → x ≡ get_or ys k x → slice_get xs k ≡ Some x
 item_at xs ys k x same lt e = ap (λ l. slice_get l k) (sym same) ∙ (slice_get-get_or ys k x lt ∙ ap Some (sym e))
+
+-- an element passes, if the one that a loop took from its place does
+pub passes_at : {X : Type 0} (test : X → Bool) (xs : List X) (k : ℕ) (otherwise : X) → k < length xs
+    → test (get_or xs k otherwise) ≡ true → (x : X) → slice_get xs k ≡ Some x → test x ≡ true
+passes_at test xs k otherwise lt t x at =
+    let there = slice_get-get_or xs k otherwise lt in
+    let is : x ≡ get_or xs k otherwise = cc in
+    ap test is ∙ t
 
 -- the end of a loop over ys, which is xs
 pub end_of : {X : Type 0} (xs ys : List X) (k : ℕ) → ys ≡ xs → length ys ≤ k → length xs ≤ k

@@ -21,6 +21,7 @@ pub mod NodesServed
 pub mod Mapped
 pub mod MappingsTrue
 pub mod RowPlaces
+pub mod StraightRows
 pub mod RuleOrder
 pub mod SameZones
 pub mod ListPlaces

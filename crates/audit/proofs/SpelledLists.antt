@@ -1,6 +1,5 @@
 -- Lists that are spelled like cables keep the rule about zone lists.
-use Rattle.std.proofs.Common.{◌≡◌, ℕ, suc, ◌≤◌, true, false, not, None, Some, length, slice_get, sym, ap, ◌∙◌}
-use Rattle.at_base.specs.declared.error.Place.TheVariants as place
+use Rattle.std.proofs.Common.{◌≡◌, ℕ, ◌≤◌, true, false, not, None, Some, length, slice_get, sym, ap, ◌∙◌}
 use Rattle.table_image.specs.Internet.{Internet}
 use Rattle.table_image.specs.declared.cable.Cable.{Cable}
 use Rattle.table_image.specs.declared.zone_list.ZoneList.{ZoneList}

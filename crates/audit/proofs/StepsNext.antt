@@ -35,6 +35,14 @@ core i r row false (Some s) h own =
       | false ↦ λ e. refl
     ] refl
 
+-- a row that keeps C7 keeps C6
+pub step_keeps_next : (i : Internet) (r : ℕ) (router : Router) (k : ℕ) (row : Row) → slice_get i.routers r ≡ Some router
+    → slice_get router.rows k ≡ Some row → AreRising router.rows
+    → (not (is_direct row) && bad_step i row (next_router i router row)) ≡ false
+    → (not (is_direct row) && is_no_other r (next_router i router row)) ≡ false
+step_keeps_next i r router k row e f rise h =
+    core i r row (is_direct row) (next_router i router row) h (own_row i r router k row e f rise)
+
 pub steps_keep_next : (i : Internet) → IsBounded i → ((p : Place) → c7 i p ≡ false) → (p : Place) → c6 i p ≡ false
 steps_keep_next i b kept (place.Row (suc r) (suc k)) = at_router (slice_get i.routers r) refl (kept (place.Row (suc r) (suc k)))
   where
@@ -42,8 +50,7 @@ steps_keep_next i b kept (place.Row (suc r) (suc k)) = at_router (slice_get i.ro
         → on o (λ row. not (is_direct row) && bad_step i row (next_router i router row)) ≡ false
         → on o (λ row. not (is_direct row) && is_no_other r (next_router i router row)) ≡ false
     at_place router e None f h = refl
-    at_place router e (Some row) f h =
-        core i r row (is_direct row) (next_router i router row) h (own_row i r router k row e f (b.each r router e).rising)
+    at_place router e (Some row) f h = step_keeps_next i r router k row e f (b.each r router e).rising h
 
     at_router : (o : Option Router) → slice_get i.routers r ≡ o
         → on o (λ router. on (slice_get router.rows k) (λ row. not (is_direct row) && bad_step i row (next_router i router row))) ≡ false

@@ -4,6 +4,7 @@ pub mod Firsts
 pub mod ZoneLists
 pub mod Hints
 pub mod Rules
+pub mod Straight
 pub mod GoodLists
 pub mod Found
 pub mod Seen

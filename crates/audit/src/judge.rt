@@ -1,10 +1,11 @@
 //! The audit of an internet: the rules, one after the other.
 
-ghost use Rattle.std.specs.Prelude.{None};
+ghost use Rattle.std.specs.Prelude.{◌≡◌, true, None};
 ghost use Rattle.audit.specs.Firsts.{FirstPlace};
 ghost use Rattle.audit.specs.Mapped.{MappingsAreTrue};
 ghost use Rattle.audit.specs.Rules.{c1, c2, c6, c7};
 ghost use Rattle.audit.specs.Served.{NodesAreServed};
+ghost use Rattle.audit.specs.Straight.{AreStraight};
 ghost use Rattle.audit.specs.Verdicts.{Judges, OnYes};
 ghost use Rattle.audit.specs.Walks.{WalksHome};
 ghost use Rattle.audit.specs.ZoneLists.{ZonesAgree};
@@ -16,6 +17,7 @@ use crate::nodes::unserved_node;
 use crate::rows::bad_row;
 use crate::rule::Rule;
 use crate::stations::bad_station;
+use crate::straight::are_straight;
 use crate::summary::summarize;
 use crate::verdict::Verdict;
 use crate::zone_lists::bad_zone_list;
@@ -24,9 +26,10 @@ use table_image::Image;
 
 // The first place that breaks C6, if any. A row that breaks C6 breaks C7 too, so the rows are
 // searched again only if C7 is broken.
-fn bad_next(image: &Image, hints: &Hints, steps: Option<Place>) -> Option<Place>
+fn bad_next(image: &Image, hints: &Hints, straight: bool, steps: Option<Place>) -> Option<Place>
     requires cables { FirstPlace (c1 image.now) None }
     requires stations { FirstPlace (c2 image.now) None }
+    requires rows { straight ≡ true → AreStraight image.now }
     requires steps { FirstPlace (c7 image.now) steps }
     ensures { FirstPlace (c6 image.now) result }
 {
@@ -34,7 +37,7 @@ fn bad_next(image: &Image, hints: &Hints, steps: Option<Place>) -> Option<Place>
     // imply C6.
     let _routers = image.routers();
     match steps {
-        Some(_) => bad_row(image, hints, Rule::NextRoutersExist),
+        Some(_) => bad_row(image, hints, straight, Rule::NextRoutersExist),
         None => None,
     }
 }
@@ -65,17 +68,18 @@ pub fn audit(image: &Image) -> Verdict
         return Verdict::No(Rule::StationsAddressed.broken_at(place));
     }
     let hints = Hints::of(image);
-    if let Some(place) = bad_row(image, &hints, Rule::RowsCoverCables) {
+    let straight = are_straight(image, &hints);
+    if let Some(place) = bad_row(image, &hints, straight, Rule::RowsCoverCables) {
         return Verdict::No(Rule::RowsCoverCables.broken_at(place));
     }
-    if let Some(place) = bad_row(image, &hints, Rule::DirectRowsDirect) {
+    if let Some(place) = bad_row(image, &hints, straight, Rule::DirectRowsDirect) {
         return Verdict::No(Rule::DirectRowsDirect.broken_at(place));
     }
-    if let Some(place) = bad_row(image, &hints, Rule::DistancesFit) {
+    if let Some(place) = bad_row(image, &hints, straight, Rule::DistancesFit) {
         return Verdict::No(Rule::DistancesFit.broken_at(place));
     }
-    let steps = bad_row(image, &hints, Rule::DistancesFall);
-    if let Some(place) = bad_next(image, &hints, steps) {
+    let steps = bad_row(image, &hints, straight, Rule::DistancesFall);
+    if let Some(place) = bad_next(image, &hints, straight, steps) {
         return Verdict::No(Rule::NextRoutersExist.broken_at(place));
     }
     if let Some(place) = steps {

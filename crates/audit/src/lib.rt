@@ -18,6 +18,7 @@ mod rule;
 mod seen;
 mod station_hints;
 mod stations;
+mod straight;
 mod summary;
 mod verdict;
 mod zone_hints;

@@ -16,7 +16,8 @@ use crate::stations::same_address;
 use at_base::Addr;
 use table_image::{Cable, Image, Port, Router, Row};
 
-fn is_for(row: &Row, cable: &Cable) -> bool
+/// Whether the row has the range of the cable.
+pub(crate) fn is_for(row: &Row, cable: &Cable) -> bool
     ensures { result ≡ rules_spec.is_for row.now cable.now }
 {
     row.start == cable.start && row.end == cable.end

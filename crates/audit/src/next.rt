@@ -69,7 +69,8 @@ impl Hints {
     }
 }
 
-fn next_router(image: &Image, hints: &Hints, router: &Router, row: &Row) -> Option<usize>
+/// The 0-based index of the row's next router, if any.
+pub(crate) fn next_router(image: &Image, hints: &Hints, router: &Router, row: &Row) -> Option<usize>
     requires { FirstPlace (c2 image.now) None }
     ensures { result ≡ rules_spec.next_router image.now router.now row.now }
 {

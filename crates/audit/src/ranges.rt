@@ -18,7 +18,8 @@ pub(crate) fn breaks_ranges(image: &Image, router: &Router, k: usize, row: &Row)
     !(row.state.is_usable() && cable_of(image, k, row).is_some())
 }
 
-fn is_bad_direct(row: &Row, port: Option<usize>) -> bool
+/// Whether the row, for a cable on which the router has this port, if any, breaks rule C4.
+pub(crate) fn is_bad_direct(row: &Row, port: Option<usize>) -> bool
     ensures { result ≡ bad_direct row.now port }
 {
     match port {

@@ -1,9 +1,10 @@
 //! The rules about rows, C3 to C7.
 
-ghost use Rattle.std.specs.Prelude.{◌≡◌, ◌<◌, suc, None, Some, IfSome, length, slice_get};
+ghost use Rattle.std.specs.Prelude.{◌≡◌, ◌<◌, true, suc, None, Some, IfSome, length, slice_get};
 ghost use Rattle.audit.specs.Firsts.{FirstNumber, FirstPlace};
 ghost use Rattle.audit.specs.Rules as spec;
 ghost use Rattle.audit.specs.Rules.{c1, c2, c3, row_breaks, breaks_rows};
+ghost use Rattle.audit.specs.Straight.{AreStraight};
 
 use crate::lookups::has_row;
 use crate::next::{Hints, breaks_next, breaks_steps};
@@ -98,8 +99,7 @@ fn first_missing(image: &Image, rule: Rule, r: usize, router: &Router) -> Option
     }
 }
 
-/// The first row, or cable without a row, that breaks the rule, if any.
-pub(crate) fn bad_row(image: &Image, hints: &Hints, rule: Rule) -> Option<Place>
+fn search(image: &Image, hints: &Hints, rule: Rule) -> Option<Place>
     requires cables { FirstPlace (c1 image.now) None }
     requires stations { FirstPlace (c2 image.now) None }
     ensures { FirstPlace (breaks_rows rule image.now) result }
@@ -113,4 +113,20 @@ pub(crate) fn bad_row(image: &Image, hints: &Hints, rule: Rule) -> Option<Place>
         }
     }
     None
+}
+
+/// The first row, or cable without a row, that breaks the rule, if any. Where all rows are straight,
+/// none is searched for.
+pub(crate) fn bad_row(image: &Image, hints: &Hints, straight: bool, rule: Rule) -> Option<Place>
+    requires cables { FirstPlace (c1 image.now) None }
+    requires stations { FirstPlace (c2 image.now) None }
+    requires rows { straight ≡ true → AreStraight image.now }
+    ensures { FirstPlace (breaks_rows rule image.now) result }
+{
+    // Only for the prover: the contract of `routers` says that rows rise.
+    let _routers = image.routers();
+    if straight {
+        return None;
+    }
+    search(image, hints, rule)
 }

@@ -1,7 +1,7 @@
 use Rattle.std.proofs.Common.{◌≡◌, ℕ, suc, ◌<◌, false}
 use Rattle.at_base.specs.declared.error.Place.TheVariants as place
 use Rattle.audit.specs.Rules.{breaks_rows}
-use Rattle.audit.proofs.rows.bad_row.Given as goal
+use Rattle.audit.proofs.rows.search.Given as goal
 
 abbrev pub invariant-loop-r : goal.invariant-loop-r
 invariant-loop-r l =

@@ -1,0 +1,91 @@
+//! The rules about rows in one pass. In an internet that keeps them, a router's row k is for cable
+//! k, so that one comparison shows which cable a row is for, and that no cable lacks one.
+
+ghost use Rattle.std.specs.Prelude.{◌≡◌, ◌&&◌, true, not, None, Some, nat_lt, slice_get};
+ghost use Rattle.rtmp.specs.States.{is_usable};
+ghost use Rattle.audit.specs.Firsts.{FirstPlace};
+ghost use Rattle.audit.specs.Places.{on};
+ghost use Rattle.audit.specs.Rules as rules_spec;
+ghost use Rattle.audit.specs.Rules.{bad_direct, c2, max_distance};
+ghost use Rattle.audit.specs.Straight as spec;
+ghost use Rattle.audit.specs.Straight.{AreStraight, IsStraight};
+
+use crate::lookups::{is_for, port_on};
+use crate::next::{Hints, next_router};
+use crate::ranges::is_bad_direct;
+use crate::rule::MAX_DISTANCE;
+use table_image::{Image, Router, Row};
+
+// Whether the row is that of the cable with its index.
+fn is_for_cable(image: &Image, k: usize, row: &Row) -> bool
+    ensures { result ≡ on (slice_get image.now.cables k) (rules_spec.is_for row.now) }
+{
+    match image.cables().get(k) {
+        Some(cable) => is_for(row, cable),
+        None => false,
+    }
+}
+
+fn is_one_nearer(router: &Router, k: usize, row: &Row) -> bool
+    ensures { result ≡ spec.is_one_nearer k row.now router.now }
+{
+    match router.rows.as_slice().get(k) {
+        Some(other) => other.distance as u32 + 1 == row.distance as u32,
+        None => false,
+    }
+}
+
+// Whether the row has a next router, and that one's row for the same cable is one nearer. Which
+// cable that row is for is looked at when its turn comes.
+fn has_nearer_next(image: &Image, hints: &Hints, router: &Router, k: usize, row: &Row) -> bool
+    requires { FirstPlace (c2 image.now) None }
+    ensures { result ≡ spec.has_nearer_next image.now router.now k row.now }
+{
+    let Some(s) = next_router(image, hints, router, row) else {
+        return false;
+    };
+    match image.routers().get(s) {
+        Some(next) => is_one_nearer(next, k, row),
+        None => false,
+    }
+}
+
+fn is_straight(image: &Image, hints: &Hints, router: &Router, k: usize, row: &Row) -> bool
+    requires { FirstPlace (c2 image.now) None }
+    ensures { result ≡ spec.is_straight image.now router.now k row.now }
+{
+    is_for_cable(image, k, row)
+        && row.state.is_usable()
+        && !(MAX_DISTANCE < row.distance)
+        && !is_bad_direct(row, port_on(router, k))
+        && (row.is_direct() || has_nearer_next(image, hints, router, k, row))
+}
+
+fn has_straight_rows(image: &Image, hints: &Hints, router: &Router) -> bool
+    requires { FirstPlace (c2 image.now) None }
+    ensures { result ≡ true → IsStraight image.now router.now }
+{
+    let rows = router.rows.as_slice();
+    if rows.len() != image.cables().len() {
+        return false;
+    }
+    for (k, row) in rows.iter().enumerate() {
+        if !is_straight(image, hints, router, k, row) {
+            return false;
+        }
+    }
+    true
+}
+
+/// Whether the rows of all routers are straight, and so break no rule.
+pub(crate) fn are_straight(image: &Image, hints: &Hints) -> bool
+    requires { FirstPlace (c2 image.now) None }
+    ensures { result ≡ true → AreStraight image.now }
+{
+    for router in image.routers() {
+        if !has_straight_rows(image, hints, router) {
+            return false;
+        }
+    }
+    true
+}
