@@ -20,6 +20,7 @@ pub mod ZonesAgree
 pub mod NodesServed
 pub mod Mapped
 pub mod MappingsTrue
+mod NameMarks
 pub mod RowPlaces
 pub mod StraightRows
 pub mod RuleOrder

@@ -28,7 +28,7 @@ make_address net node = record { net = net; node = node }
 abbrev make_hardware : List ℕ → Hw
 make_hardware bytes = record { 0 = bytes }
 
-address_is : (a b : Addr) → same_address a b ≡ true → b ≡ a
+pub address_is : (a b : Addr) → same_address a b ≡ true → b ≡ a
 address_is a b e =
     let h = and_parts (a.net == b.net) (a.node == b.node) e in
     ap (λ net. make_address net b.node) (sym (eqb-true a.net b.net h.0)) ∙ ap (make_address a.net) (sym (eqb-true a.node b.node h.1))

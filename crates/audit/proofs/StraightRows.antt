@@ -1,7 +1,9 @@
 -- Where rows stand side by side with the cables and are good there, no rule about rows is broken.
 use Rattle.std.proofs.Common.{◌≡◌, ℕ, suc, Bool, true, false, not, ◌&&◌, ◌||◌, ◌==◌, ◌+◌, Option, Some, None, length, is_some, refl, sym, ap}
 use Rattle.std.proofs.Common.{◌∙◌, arith, slice_get, nat_lt, eqb-true, eq-eqb}
+use Rattle.std.specs.Option.{option_and_then}
 use Rattle.std.proofs.lemmas.Bool.{and_parts}
+use Rattle.at_base.specs.Address.{same_address}
 use Rattle.rtmp.specs.States.{is_usable}
 use Rattle.table_image.specs.Bounds.{IsBounded}
 use Rattle.table_image.specs.Internet.{Internet}
@@ -13,16 +15,28 @@ use Rattle.audit.specs.Firsts.{FirstPlace}
 use Rattle.audit.specs.Places.{on}
 use Rattle.audit.specs.Rules.{c1, is_for, cable_of, bad_direct, bad_step, max_distance, next_router, port_on, lacks_row, not_one_less, same_row}
 use Rattle.audit.specs.Rules.{row_breaks, breaks_rows, lack_breaks}
-use Rattle.audit.specs.Straight.{is_one_nearer, has_nearer_next, is_straight, IsStraight, AreStraight}
+use Rattle.audit.specs.Routing.{owner}
+use Rattle.audit.specs.Straight.{IsFound, is_one_nearer, has_nearer_next, is_straight, IsStraight, AreStraight}
 use Rattle.audit.specs.declared.rule.Rule.{Rule}
+use Rattle.audit.specs.declared.straight.NextFound.{NextFound}
 use Rattle.audit.specs.declared.rule.Rule.TheVariants.{CablesInOrder, StationsAddressed, RowsCoverCables, DirectRowsDirect, DistancesFit}
 use Rattle.audit.specs.declared.rule.Rule.TheVariants.{NextRoutersExist, DistancesFall, ZoneListsAgree, NodesServed, MappingsTrue}
 use Rattle.audit.proofs.CableOrder.{only_cable}
 use Rattle.audit.proofs.Finding.{any_from}
+use Rattle.audit.proofs.MappingsTrue.{address_is}
 use Rattle.audit.proofs.RowPlaces.{no_bad_row}
 use Rattle.audit.proofs.RowOrder.{only_row}
 use Rattle.audit.proofs.StepsNext.{step_keeps_next}
 use Rattle.audit.proofs.WalkLists.{At, at_within, at_below, at_one}
+
+-- a router that was found for one row is the next router of each row with its port and its next address
+pub found_again : (i : Internet) (router : Router) (it : NextFound) (row : Row) → IsFound i router it → it.port ≡ row.port
+    → same_address it.address row.next ≡ true → it.router ≡ next_router i router row
+found_again i router it row found port same =
+    let address = sym (address_is it.address row.next same) in
+    found
+    ∙ (ap (λ a. option_and_then (λ p. owner i p.cable a) (slice_get router.ports it.port)) address
+    ∙ ap (λ k. option_and_then (λ p. owner i p.cable row.next) (slice_get router.ports k)) port)
 
 -- what is said of a straight row, part by part
 record Parts (i : Internet) (router : Router) (k : ℕ) (row : Row) : Type 0 where

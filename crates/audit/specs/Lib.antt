@@ -8,6 +8,7 @@ pub mod Straight
 pub mod GoodLists
 pub mod Found
 pub mod Seen
+pub mod NameMarks
 pub mod Verdicts
 pub mod Walks
 pub mod Served

@@ -5,12 +5,19 @@ use Rattle.table_image.specs.Internet.{Internet}
 use Rattle.table_image.specs.Rows.{is_direct}
 use Rattle.table_image.specs.declared.router.Router.{Router}
 use Rattle.table_image.specs.declared.row.Row.{Row}
+use Rattle.std.specs.Option.{option_and_then}
 use Rattle.audit.specs.Places.{on}
+use Rattle.audit.specs.Routing.{owner}
+use Rattle.audit.specs.declared.straight.NextFound.{NextFound}
 use Rattle.audit.specs.Rules.{is_for, bad_direct, max_distance, next_router, port_on}
 
 -- row k of the router has a distance one less than the row's
 abbrev pub is_one_nearer : ℕ → Row → Router → Bool
 is_one_nearer k row router = on (slice_get router.rows k) (λ other. other.distance + 1 == row.distance)
+
+-- the router was found for the rows with this port and this next address
+abbrev pub IsFound : Internet → Router → NextFound → Type 0
+IsFound i router it = it.router ≡ option_and_then (λ port. owner i port.cable it.address) (slice_get router.ports it.port)
 
 -- the row's next router exists, and its row k has a distance one less
 abbrev pub has_nearer_next : Internet → Router → ℕ → Row → Bool

@@ -1,49 +1,46 @@
 //! Rule C1: the ranges of the cables are valid and rising, and each cable has zones, none of them
 //! twice.
 
-ghost use Rattle.std.specs.Prelude.{◌≡◌, ◌<◌, suc, IfSome};
-ghost use Rattle.std.specs.List.{list_any};
-ghost use Rattle.at_base.specs.Text.{same_name};
+ghost use Rattle.std.specs.Prelude.{◌≡◌, ◌<◌, false, suc, IfSome};
 ghost use Rattle.audit.specs.Firsts.{FirstNumber, FirstPlace};
+ghost use Rattle.audit.specs.NameMarks.{AreMarked};
 ghost use Rattle.audit.specs.Rules as rules_spec;
 ghost use Rattle.audit.specs.Rules.{c1};
 ghost use Rattle.audit.specs.ZoneLists as zone_lists_spec;
 
+use crate::name_marks::NameMarks;
 use crate::places::from_one;
 use at_base::{Name, Place, Range};
 use table_image::{Cable, Image};
 
-fn is_among(name: &Name, others: &[Name]) -> bool
-    ensures { result ≡ list_any (same_name name.now) others.now }
-{
-    others.iter().any(|other| name.same(other))
-}
-
-fn has_double(zones: &[Name]) -> bool
-    ensures { result ≡ zone_lists_spec.has_double zones.now }
+// Whether a zone of the cable is there twice. Each name is marked after those that follow it.
+fn has_double(marks: &mut NameMarks, number: u8, zones: &[Name]) -> bool
+    ensures double { result ≡ zone_lists_spec.has_double zones.now }
+    ensures marked { result ≡ false → AreMarked marks.new number zones.now }
 {
     match zones {
         [] => false,
-        [name, rest @ ..] => is_among(name, rest) || has_double(rest),
+        [name, rest @ ..] => { has_double(marks, number, rest) || marks.add(number, name, rest) }
     }
 }
 
-fn is_bad(before: u16, cable: &Cable) -> bool
+fn is_bad(marks: &mut NameMarks, number: u8, before: u16, cable: &Cable) -> bool
     ensures { result ≡ rules_spec.bad_cable before cable.now }
 {
     Range::new(cable.start, cable.end).is_err()
         || cable.start <= before
         || cable.zones.is_empty()
-        || has_double(cable.zones.as_slice())
+        || has_double(marks, number, cable.zones.as_slice())
 }
 
 fn first_cable(image: &Image) -> Option<usize>
     ensures first { FirstNumber (λ k. c1 image.now (Place.Cable (suc k))) result }
     ensures low { IfSome result (λ k. k < 200) }
 {
+    let mut marks = NameMarks::new();
     let mut before = 0;
     for (k, cable) in image.cables().iter().enumerate() {
-        if is_bad(before, cable) {
+        if is_bad(&mut marks, (k % 255) as u8 + 1, before, cable) {
             return Some(k);
         }
         before = cable.end;

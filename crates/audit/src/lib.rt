@@ -8,6 +8,7 @@ mod judge;
 mod laws;
 mod lookups;
 mod mappings;
+mod name_marks;
 mod name_order;
 mod next;
 mod nodes;

@@ -1,19 +1,21 @@
 //! The rules about rows in one pass. In an internet that keeps them, a router's row k is for cable
 //! k, so that one comparison shows which cable a row is for, and that no cable lacks one.
 
-ghost use Rattle.std.specs.Prelude.{◌≡◌, ◌&&◌, true, not, None, Some, nat_lt, slice_get};
+ghost use Rattle.std.specs.Prelude.{◌≡◌, ◌&&◌, true, not, IfSome, None, Some, nat_lt, slice_get};
 ghost use Rattle.rtmp.specs.States.{is_usable};
 ghost use Rattle.audit.specs.Firsts.{FirstPlace};
 ghost use Rattle.audit.specs.Places.{on};
 ghost use Rattle.audit.specs.Rules as rules_spec;
 ghost use Rattle.audit.specs.Rules.{bad_direct, c2, max_distance};
 ghost use Rattle.audit.specs.Straight as spec;
-ghost use Rattle.audit.specs.Straight.{AreStraight, IsStraight};
+ghost use Rattle.audit.specs.Straight.{AreStraight, IsFound, IsStraight};
 
 use crate::lookups::{is_for, port_on};
 use crate::next::{Hints, next_router};
 use crate::ranges::is_bad_direct;
 use crate::rule::MAX_DISTANCE;
+use crate::stations::same_address;
+use at_base::Addr;
 use table_image::{Image, Router, Row};
 
 // Whether the row is that of the cable with its index.
@@ -24,6 +26,44 @@ fn is_for_cable(image: &Image, k: usize, row: &Row) -> bool
         Some(cable) => is_for(row, cable),
         None => false,
     }
+}
+
+// The next router that was found for a row. Most rows of a router have few next routers, and those
+// for cables side by side often have the same.
+#[derive(Clone, Copy)]
+struct NextFound {
+    port: u8,
+    address: Addr,
+    // The 0-based index of the router, if there is one.
+    router: Option<usize>,
+}
+
+// The 0-based index of the row's next router, if any. Where the last row that was asked for has the
+// same, it is known.
+fn find_next(
+    image: &Image,
+    hints: &Hints,
+    last: &mut Option<NextFound>,
+    router: &Router,
+    row: &Row,
+) -> Option<usize>
+    requires stations { FirstPlace (c2 image.now) None }
+    requires last { IfSome last.old (IsFound image.now router.now) }
+    ensures next { result ≡ rules_spec.next_router image.now router.now row.now }
+    ensures last { IfSome last.new (IsFound image.now router.now) }
+{
+    if let Some(it) = *last {
+        if it.port == row.port && same_address(it.address, row.next) {
+            return it.router;
+        }
+    }
+    let found = next_router(image, hints, router, row);
+    *last = Some(NextFound {
+        port: row.port,
+        address: row.next,
+        router: found,
+    });
+    found
 }
 
 fn is_one_nearer(router: &Router, k: usize, row: &Row) -> bool
@@ -37,11 +77,20 @@ fn is_one_nearer(router: &Router, k: usize, row: &Row) -> bool
 
 // Whether the row has a next router, and that one's row for the same cable is one nearer. Which
 // cable that row is for is looked at when its turn comes.
-fn has_nearer_next(image: &Image, hints: &Hints, router: &Router, k: usize, row: &Row) -> bool
-    requires { FirstPlace (c2 image.now) None }
-    ensures { result ≡ spec.has_nearer_next image.now router.now k row.now }
+fn has_nearer_next(
+    image: &Image,
+    hints: &Hints,
+    last: &mut Option<NextFound>,
+    router: &Router,
+    k: usize,
+    row: &Row,
+) -> bool
+    requires stations { FirstPlace (c2 image.now) None }
+    requires last { IfSome last.old (IsFound image.now router.now) }
+    ensures nearer { result ≡ spec.has_nearer_next image.now router.now k row.now }
+    ensures last { IfSome last.new (IsFound image.now router.now) }
 {
-    let Some(s) = next_router(image, hints, router, row) else {
+    let Some(s) = find_next(image, hints, last, router, row) else {
         return false;
     };
     match image.routers().get(s) {
@@ -50,15 +99,24 @@ fn has_nearer_next(image: &Image, hints: &Hints, router: &Router, k: usize, row:
     }
 }
 
-fn is_straight(image: &Image, hints: &Hints, router: &Router, k: usize, row: &Row) -> bool
-    requires { FirstPlace (c2 image.now) None }
-    ensures { result ≡ spec.is_straight image.now router.now k row.now }
+fn is_straight(
+    image: &Image,
+    hints: &Hints,
+    last: &mut Option<NextFound>,
+    router: &Router,
+    k: usize,
+    row: &Row,
+) -> bool
+    requires stations { FirstPlace (c2 image.now) None }
+    requires last { IfSome last.old (IsFound image.now router.now) }
+    ensures straight { result ≡ spec.is_straight image.now router.now k row.now }
+    ensures last { IfSome last.new (IsFound image.now router.now) }
 {
     is_for_cable(image, k, row)
         && row.state.is_usable()
         && !(MAX_DISTANCE < row.distance)
         && !is_bad_direct(row, port_on(router, k))
-        && (row.is_direct() || has_nearer_next(image, hints, router, k, row))
+        && (row.is_direct() || has_nearer_next(image, hints, last, router, k, row))
 }
 
 fn has_straight_rows(image: &Image, hints: &Hints, router: &Router) -> bool
@@ -69,8 +127,9 @@ fn has_straight_rows(image: &Image, hints: &Hints, router: &Router) -> bool
     if rows.len() != image.cables().len() {
         return false;
     }
+    let mut last = None;
     for (k, row) in rows.iter().enumerate() {
-        if !is_straight(image, hints, router, k, row) {
+        if !is_straight(image, hints, &mut last, router, k, row) {
             return false;
         }
     }

@@ -9,4 +9,7 @@ mod steps;
 
 pub use events::Event;
 pub use frozen::Frozen;
-pub use laws::{promises_hold, the_examples_of_conditions, the_headline};
+pub use laws::{
+    every_datagram_is_heard, promises_hold, promises_hold_with_resolution,
+    the_examples_of_conditions, the_headline,
+};

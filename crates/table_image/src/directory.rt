@@ -38,7 +38,7 @@ fn is_at(place: &Place, addr: Addr) -> bool
 fn is_of(place: &Place, hw: &Hw) -> bool
     ensures { result ≡ has_hardware hw.now place.now }
 {
-    place.hardware == *hw
+    place.hardware.same(hw)
 }
 
 /// The first of these places that has the address.

@@ -2,7 +2,7 @@
 use Rattle.std.proofs.Common.{◌≡◌, ℕ, ◌+◌, ◌*◌, ◌/◌, ◌%◌, ◌^◌, ◌<◌, ◌≤◌, true, List, [], ◌∷◌, ◌++◌, length, take, drop}
 use Rattle.std.proofs.Common.{slice_index, slice_set, refl, ap, sym, ◌∙◌, arith}
 use Rattle.std.proofs.lemmas.List.{append_assoc, append-nil, drop_all, drop_more, take_all, take_more_set, length-set}
-use Rattle.std.proofs.lemmas.Fmt.{decimal_step}
+use Rattle.std.proofs.lemmas.Fmt.{decimal_digit, decimal_step}
 use Rattle.std.proofs.Math.Seq.{take-append_seam}
 use Rattle.std.specs.Fmt.{decimal, digit_glyph}
 use Rattle.text.specs.Digits.{hex_text}
@@ -14,6 +14,47 @@ decimal_more n old front new low high first last =
     last ∙ ap (λ f. f ++ (48 + n % 10) ∷ []) first
     ∙ append_assoc old (decimal (n / 10)) ((48 + n % 10) ∷ [])
     ∙ ap (λ d. old ++ d) (sym (decimal_step n low (omega arith)))
+
+-- a number of two digits
+pub two_digits : (n : ℕ) → 10 ≤ n → n < 100 → decimal n ≡ (48 + n / 10 % 10) ∷ (48 + n % 10) ∷ []
+two_digits n low high =
+    let tens : n / 10 ≡ n / 10 % 10 = omega arith in
+    decimal_step n low (omega (arith, high))
+    ∙ ap (λ d. d ++ (48 + n % 10) ∷ []) (decimal_digit (n / 10) (omega (arith, high)) ∙ ap (λ t. (48 + t) ∷ []) tens)
+
+-- a number of three digits
+pub three_digits : (n : ℕ) → 100 ≤ n → n < 1000 → decimal n ≡ (48 + n / 100 % 10) ∷ (48 + n / 10 % 10) ∷ (48 + n % 10) ∷ []
+three_digits n low high =
+    let hundreds : n / 10 / 10 % 10 ≡ n / 100 % 10 = omega arith in
+    decimal_step n (omega (arith, low)) (omega (arith, high))
+    ∙ ap (λ d. d ++ (48 + n % 10) ∷ [])
+    (two_digits (n / 10) (omega (arith, low)) (omega (arith, high)) ∙ ap (λ h. (48 + h) ∷ (48 + n / 10 % 10) ∷ []) hundreds)
+
+-- a number of four digits
+pub four_digits : (n : ℕ) → 1000 ≤ n → n < 10000
+    → decimal n ≡ (48 + n / 1000 % 10) ∷ (48 + n / 100 % 10) ∷ (48 + n / 10 % 10) ∷ (48 + n % 10) ∷ []
+four_digits n low high =
+    let thousands : n / 10 / 100 % 10 ≡ n / 1000 % 10 = omega arith in
+    let hundreds : n / 10 / 10 % 10 ≡ n / 100 % 10 = omega arith in
+    decimal_step n (omega (arith, low)) (omega (arith, high))
+    ∙ ap (λ d. d ++ (48 + n % 10) ∷ [])
+    (three_digits (n / 10) (omega (arith, low)) (omega (arith, high))
+    ∙ (ap (λ t. (48 + t) ∷ (48 + n / 10 / 10 % 10) ∷ (48 + n / 10 % 10) ∷ []) thousands
+    ∙ ap (λ h. (48 + n / 1000 % 10) ∷ (48 + h) ∷ (48 + n / 10 % 10) ∷ []) hundreds))
+
+-- a number of five digits
+pub five_digits : (n : ℕ) → 10000 ≤ n → n < 100000
+    → decimal n ≡ (48 + n / 10000) ∷ (48 + n / 1000 % 10) ∷ (48 + n / 100 % 10) ∷ (48 + n / 10 % 10) ∷ (48 + n % 10) ∷ []
+five_digits n low high =
+    let first : n / 10 / 1000 % 10 ≡ n / 10000 = omega (arith, high) in
+    let thousands : n / 10 / 100 % 10 ≡ n / 1000 % 10 = omega arith in
+    let hundreds : n / 10 / 10 % 10 ≡ n / 100 % 10 = omega arith in
+    decimal_step n (omega (arith, low)) (omega (arith, high))
+    ∙ ap (λ d. d ++ (48 + n % 10) ∷ [])
+    (four_digits (n / 10) (omega (arith, low)) (omega (arith, high))
+    ∙ (ap (λ f. (48 + f) ∷ (48 + n / 10 / 100 % 10) ∷ (48 + n / 10 / 10 % 10) ∷ (48 + n / 10 % 10) ∷ []) first
+    ∙ (ap (λ t. (48 + n / 10000) ∷ (48 + t) ∷ (48 + n / 10 / 10 % 10) ∷ (48 + n / 10 % 10) ∷ []) thousands
+    ∙ ap (λ h. (48 + n / 10000) ∷ (48 + n / 1000 % 10) ∷ (48 + h) ∷ (48 + n / 10 % 10) ∷ []) hundreds)))
 
 -- what was appended is cut off again
 pub cut_back : (old mid new more : List ℕ) (start : ℕ) → start ≡ length old → mid ≡ old ++ more → new ≡ take start mid → new ≡ old

@@ -9,54 +9,59 @@ ghost use Rattle.text.specs.Digits.{hex_text};
 use at_base::Addr;
 use std::alloc::AllocError;
 
-/// Appends a decimal digit. Error: `AllocError`; the text then stays as it was.
-fn put_digit(text: &mut Vec<u8>, digit: u8) -> Result<(), AllocError>
-    requires { digit < 10 }
-    ensures ok { OnOk result (text.new.items ≡ text.old.items ++ (48 + digit) ∷ []) }
-    ensures kept { OnErr result (text.new.items ≡ text.old.items) }
-{
-    text.push(b'0' + digit)?;
-    Ok(())
-}
-
-/// Appends a further digit of a number that begins at `start`. Error: `AllocError`; the text then
-/// ends where the number began.
+/// Appends the last digit of a number that begins at `start`. Error: `AllocError`; the text then ends
+/// where the number began.
 fn put_next(text: &mut Vec<u8>, start: usize, digit: u8) -> Result<(), AllocError>
-    requires { digit < 10 }
-    ensures ok { OnOk result (text.new.items ≡ text.old.items ++ (48 + digit) ∷ []) }
+    ensures ok { OnOk result (text.new.items ≡ text.old.items ++ digit ∷ []) }
     ensures cut { OnErr result (text.new.items ≡ take start text.old.items) }
 {
-    match put_digit(text, digit) {
+    match text.push(digit) {
         Ok(()) => Ok(()),
-        Err(error) => {
+        Err(_) => {
             text.truncate(start);
-            Err(error)
+            Err(AllocError)
         }
     }
 }
 
-/// Appends a number in decimal. Error: `AllocError`; the text then stays as it was. Numbers below
-/// 1,000 don't recurse, since most numbers are short.
-#[tactic(auto, using(std::proofs::lemmas::Fmt::decimal_digit))]
+/// The decimal digit of a place.
+fn digit(value: u32) -> u8
+    requires { value < 10 }
+    ensures { result ≡ 48 + value }
+{
+    b'0' + value as u8
+}
+
+/// Appends a number in decimal. Error: `AllocError`; the text then stays as it was. The digits of
+/// numbers below 100,000 are appended at once, since most numbers are short.
+#[tactic(auto, using(std::proofs::lemmas::Fmt::decimal_digit, crate::proofs::InDigits::two_digits, crate::proofs::InDigits::three_digits, crate::proofs::InDigits::four_digits, crate::proofs::InDigits::five_digits))]
 pub fn put_decimal(text: &mut Vec<u8>, number: u32) -> Result<(), AllocError>
     ensures ok { OnOk result (text.new.items ≡ text.old.items ++ decimal number) }
     ensures kept { OnErr result (text.new.items ≡ text.old.items) }
 {
+    let ones = digit(number % 10);
     if number < 10 {
-        return put_digit(text, number as u8);
+        return text.extend_from_slice(&[ones]);
+    }
+    let tens = digit(number / 10 % 10);
+    if number < 100 {
+        return text.extend_from_slice(&[tens, ones]);
+    }
+    let hundreds = digit(number / 100 % 10);
+    if number < 1000 {
+        return text.extend_from_slice(&[hundreds, tens, ones]);
+    }
+    let thousands = digit(number / 1000 % 10);
+    if number < 10_000 {
+        return text.extend_from_slice(&[thousands, hundreds, tens, ones]);
+    }
+    if number < 100_000 {
+        let first = digit(number / 10_000);
+        return text.extend_from_slice(&[first, thousands, hundreds, tens, ones]);
     }
     let start = text.len();
-    if number < 100 {
-        put_digit(text, (number / 10) as u8)?;
-        return put_next(text, start, (number % 10) as u8);
-    }
-    if number < 1000 {
-        put_digit(text, (number / 100) as u8)?;
-        put_next(text, start, (number / 10 % 10) as u8)?;
-        return put_next(text, start, (number % 10) as u8);
-    }
     put_decimal(text, number / 10)?;
-    put_next(text, start, (number % 10) as u8)
+    put_next(text, start, ones)
 }
 
 /// A hexadecimal digit, in upper case.

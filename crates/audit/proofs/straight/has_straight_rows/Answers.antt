@@ -10,9 +10,11 @@ loop-k-preserved c =
     let i = c.args.image.now in
     let router = c.args.router.now in
     let same = c.as_slice-rows.ensures in
-    let good = sym c.is_straight.ensures ∙ c.if-not-is_straight.false in
-    below_more (λ j. (row : Row) → slice_get router.rows j ≡ Some row → is_straight i router j row ≡ true) _ c.loop-k.invariant (λ row here.
-    passes_at (is_straight i router c.loop-k.k) _ c.loop-k.k _ c.loop-k-test.true good row (ap (λ rows. slice_get rows c.loop-k.k) same ∙ here))
+    let good = sym c.is_straight.ensures.straight ∙ c.if-not-is_straight.false in (
+      below_more (λ j. (row : Row) → slice_get router.rows j ≡ Some row → is_straight i router j row ≡ true) _ c.loop-k.invariant.0 (λ row here.
+          passes_at (is_straight i router c.loop-k.k) _ c.loop-k.k _ c.loop-k-test.true good row (ap (λ rows. slice_get rows c.loop-k.k) same ∙ here)),
+      c.is_straight.ensures.last,
+    )
 
 pub returns : goal.returns
 returns c = λ _.
@@ -20,5 +22,5 @@ returns c = λ _.
     let same = c.as_slice-rows.ensures in
     let past = end_of router.rows _ c.loop-k.k same c.loop-k-test.false in (
       sym (ap length same) ∙ (c.if-rows-cables.false ∙ ap length c.cables.ensures.value),
-      λ k row at. let within = at_within router.rows k row at in c.loop-k.invariant k (omega (arith, within, past)) row at,
+      λ k row at. let within = at_within router.rows k row at in c.loop-k.invariant.0 k (omega (arith, within, past)) row at,
     )
