@@ -23,7 +23,7 @@ use table_image::parts::{Fault, Stop};
 use table_image::{Image, Listed};
 
 /// The greatest number of bytes that a reader's image is fed at once.
-pub const MAX_PIECE: usize = 4_096;
+pub const MAX_PIECE: usize = 8_192;
 
 /// An image of which the first pieces were fed. Each part is read as soon as its bytes are there;
 /// beside what was read, only the bytes of a field that isn't whole are kept.
