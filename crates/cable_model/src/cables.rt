@@ -358,6 +358,7 @@ impl Cables {
     /// `Memory`. A refusal changes nothing.
     pub fn lose(&mut self, stamp: u32) -> Result<(), Error>
         ensures ok { OnOk result (Adds self.old self.new (Lost stamp ∷ [])) }
+        ensures stored { OnOk result (self.new.kept ≡ self.old.kept) }
         ensures spent { OnOk result (self.new.spare ≡ 0) }
         ensures not_pending { (result ≡ Err Error.NotPending)
             ↔ (list_any (has_stamp stamp) (pending_on self.old) ≡ false) }

@@ -1,5 +1,5 @@
-//! Tests of the examples in READMEs, and calls of laws. They are a separate crate, since a crate's
-//! tests prove the crate a second time.
+//! Tests of the examples in the READMEs of the crates for packets, tables, stations and cables, and
+//! calls of laws. They are a separate crate, since a crate's tests prove the crate a second time.
 #![tactic(auto)]
 
 #[cfg(test)]
