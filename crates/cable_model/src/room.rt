@@ -140,7 +140,8 @@ pub fn make_spare(log: &mut Log, limit: u32, more: u32, seats: usize) -> Result<
 /// The number of pairs of so many frames and seats, or `usize::MAX`, for which no allocation
 /// succeeds.
 fn pairs_of(frames: usize, seats: usize) -> usize
-    ensures { result < 2 ^ 63 → result ≡ frames * seats }
+    ensures few { frames * seats < 2 ^ 63 → result ≡ frames * seats }
+    ensures many { result < 2 ^ 63 → result ≡ frames * seats }
 {
     match frames.checked_mul(seats) {
         None => usize::MAX,

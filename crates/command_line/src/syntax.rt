@@ -219,7 +219,7 @@ fn image_commands<'a>(alloc: Global) -> Result<Command<'a>, AllocError>
     ensures { IfOk result (λ command. app_of command ≡ images_app) }
 {
     Command::new(alloc, "atalk")
-        .version("0.9")
+        .version("1.0")
         .about(ABOUT)
         .after_help(AFTER_HELP)
         .disable_help_subcommand(true)

@@ -1,7 +1,7 @@
 //! Images that are read piece by piece.
 
 ghost use Rattle.std.specs.Prelude.{◌≡◌, ◌≢◌, ◌⊎◌, ℕ, List, None};
-ghost use Rattle.std.specs.Prelude.{IfErr, IfOk, IfSome, IsErrAnd, IsSomeAnd, OnOk};
+ghost use Rattle.std.specs.Prelude.{IfErr, IfOk, IfSome, IsErrAnd, IsSomeAnd, OnErr, OnOk, Some};
 ghost use Rattle.at_base.specs.Spelling.{Spells};
 ghost use Rattle.table_image.specs.Internet.{Internet};
 ghost use Rattle.table_image.specs.Reading.{IsFirstFlaw, refusal};
@@ -35,6 +35,11 @@ fn feed_input<R: Read>(alloc: Global, input: &mut Input<R>) -> Result<Feed, Erro
     ensures no_script { IfErr result (λ e. (n : ℕ) → e ≢ Error.BadScript n) }
     ensures uses { Uses (R.remaining input.new.reader) input.old.faults input.new.faults
         input.new.fault input.new.reads input.old.ended input.new.ended result }
+    ensures held { input.new.kept ≡ input.old.kept }
+    ensures image { input.new.image ≡ input.old.image }
+    // Only a refused image has a flawed byte.
+    ensures flawed { OnOk result (input.new.flawed ≡ input.old.flawed) }
+    ensures unread { result ≡ Err Error.ReadFault → input.new.flawed ≡ input.old.flawed }
 {
     let mut feed = Feed::new(alloc)?;
     let mut buffer = [0; MAX_PIECE];
@@ -78,6 +83,9 @@ pub fn read_from<R: Read>(alloc: Global, input: &mut Input<R>) -> Result<Image, 
     ensures refused { IfErr result (λ e. e ≢ Error.WriteFault) }
     ensures uses { Uses (R.remaining input.new.reader) input.old.faults input.new.faults
         input.new.fault input.new.reads input.old.ended input.new.ended result }
+    ensures held { input.new.kept ≡ input.old.kept }
+    ensures image { input.new.image ≡ input.old.image }
+    ensures flawed { OnOk result (input.new.flawed ≡ input.old.flawed) }
 {
     match feed_input(alloc, input) {
         Ok(feed) => feed.finish(),
@@ -112,6 +120,10 @@ pub fn read_image<R: Read>(alloc: Global, input: &mut Input<R>) -> Result<Image,
         input.new.fault input.new.reads input.old.ended input.new.ended result }
     ensures kept { OnOk result (IsSomeAnd input.new.image (λ i.
         IfSome (R.remaining input.old.reader) (λ bytes. Spells image_spelling bytes i))) }
+    ensures same { IfOk result (λ image. input.new.image ≡ Some image) }
+    ensures image { OnErr result (input.new.image ≡ input.old.image) }
+    ensures held { input.new.kept ≡ input.old.kept }
+    ensures flawed { OnOk result (input.new.flawed ≡ input.old.flawed) }
 {
     let feed = match feed_input(alloc, input) {
         Ok(feed) => feed,

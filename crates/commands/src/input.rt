@@ -1,6 +1,6 @@
 //! Reads an input to its end, in a bounded number of reads.
 
-ghost use Rattle.std.specs.Prelude.{None, length, take, ◌++◌, ◌<◌, ◌≡◌, ◌≢◌, ◌≤◌, ◌⊎◌};
+ghost use Rattle.std.specs.Prelude.{None, length, take, ◌++◌, ◌<◌, ◌≡◌, ◌≢◌, ◌≤◌, ◌⊎◌, ◌+◌, ◌%◌, ◌^◌};
 ghost use Rattle.std.specs.Prelude.{IfOk, IfErr, IfSome, IsSome, OnOk, OnErr, IsOkUnless};
 ghost use Rattle.std.specs.Io.{ReadsAtMost};
 ghost use Rattle.std.specs.Io.KnownBytes.{Consumes, IsAtEnd, Keeps};
@@ -77,15 +77,18 @@ impl<R: Read> Input<R> {
         ensures limit { result ≡ Err Error.ReadFault → self.new.faults ≡ self.old.faults
             → self.new.reads ≡ READS }
         ensures refused { IfErr result (λ e. (e ≡ Error.ReadFault) ⊎ (e ≡ Error.Memory)) }
-        // Only a failed read is counted.
+        // Only a failed read is counted, once.
         ensures stays { result ≢ Err Error.ReadFault → self.new.faults ≡ self.old.faults }
+        ensures counts { (self.new.faults ≡ self.old.faults)
+            ⊎ (self.new.faults ≡ (self.old.faults + 1) % 2 ^ 32) }
         // The reason of a failed read is kept.
         ensures reason { self.new.faults ≢ self.old.faults → IsSome self.new.fault }
         ensures reason_stays { result ≢ Err Error.ReadFault → self.new.fault ≡ self.old.fault }
         // An input that is given up has no reason, because none of its reads failed.
         ensures no_reason { self.new.faults ≡ self.old.faults → self.new.fault ≡ self.old.fault }
-        // No read follows the one that found the end.
+        // No read follows the one that found the end. The first one that did is noted.
         ensures found { OnOk result (IsSome self.new.ended) }
+        ensures first { IsSome self.old.ended → self.new.ended ≡ self.old.ended }
         ensures last { EndsReading self.old.ended self.new.ended self.new.reads }
         ensures kept { self.new.kept ≡ self.old.kept }
         ensures image { self.new.image ≡ self.old.image }
@@ -117,6 +120,9 @@ impl<R: Read> Input<R> {
         ensures more { OnOk result (self.old.reads < self.new.reads) }
         ensures stays { OnOk result (self.new.faults ≡ self.old.faults) }
         ensures fault { OnErr result ((self.new.faults ≢ self.old.faults) ⊎ (self.new.reads ≡ READS)) }
+        // A failed read is counted once.
+        ensures counts { OnErr result ((self.new.faults ≡ self.old.faults)
+            ⊎ (self.new.faults ≡ (self.old.faults + 1) % 2 ^ 32)) }
         ensures refused { IsOkUnless result Error.ReadFault }
         ensures reason { self.new.faults ≢ self.old.faults → IsSome self.new.fault }
         ensures reason_stays { OnOk result (self.new.fault ≡ self.old.fault) }
@@ -126,6 +132,7 @@ impl<R: Read> Input<R> {
         ensures last { EndsReading self.old.ended self.new.ended self.new.reads }
         ensures goes_on { IfOk result (λ n. 0 < n → self.new.ended ≡ self.old.ended) }
         ensures stays_so { OnErr result (self.new.ended ≡ self.old.ended) }
+        ensures first { IsSome self.old.ended → self.new.ended ≡ self.old.ended }
         ensures kept { self.new.kept ≡ self.old.kept }
         ensures image { self.new.image ≡ self.old.image }
         ensures flawed { self.new.flawed ≡ self.old.flawed }

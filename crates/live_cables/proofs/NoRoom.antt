@@ -65,15 +65,19 @@ seat_seated seats (Some k) s e =
     has_any (λ (t : Seat). t.cable == s.cable && t.station == s.station) seats s (k, e)
     (both (s.cable == s.cable) (s.station == s.station) (eq-eqb s.cable s.cable refl) (eq-eqb s.station s.station refl))
 
--- Where the bytes fit a frame and there is too little room, the error is Full.
+-- The error is Full where the bytes fit a frame and there is too little room, and only there.
 pub full_by : {A : Type 0} (r : Result A Error) (seat : Option Seat) (s : Seat) (bytes : List ℕ) (more : ℕ) (c : Cabling) (seated : Bool)
-    → seat ≡ Some s → seated ≡ true → ((r ≡ Err Full) ↔ ((seated ≡ true) × (length bytes ≤ 599) × HasNoRoom more c))
-    → 1 ≤ room_by seat bytes more → HasNoRoom (room_by seat bytes more) c → r ≡ Err Full
-full_by r seat s bytes more c seated is there full some none =
-    elim (cases_lt 599 (length bytes)) [
-      | inl long ↦ absurd (let zero = rw (is, lt-leb (length bytes) 599 long) at some in omega (arith, zero))
-      | inr few ↦ full.1 (there, few, rw (is, le-leb (length bytes) 599 few) at none)
-    ]
+    → seat ≡ Some s → seated ≡ true → 1 ≤ more
+    → ((r ≡ Err Full) ↔ ((seated ≡ true) × (length bytes ≤ 599) × HasNoRoom more c))
+    → (r ≡ Err Full) ↔ ((1 ≤ room_by seat bytes more) × HasNoRoom (room_by seat bytes more) c)
+full_by r seat s bytes more c seated is there some full = elim (cases_lt 599 (length bytes)) [
+  | inl long ↦
+    (λ e. let fits = (full.0 e).1.0 in absurd (omega (arith, fits, long)),
+    λ x. absurd (let needs = x.0 in let zero = rw (is, lt-leb (length bytes) 599 long) at needs in omega (arith, zero)))
+  | inr few ↦
+    (λ e. (rw (is, le-leb (length bytes) 599 few) some, rw (is, le-leb (length bytes) 599 few) (full.0 e).1.1),
+    λ x. let none = x.1 in full.1 (there, few, rw (is, le-leb (length bytes) 599 few) at none))
+]
 
 -- Where no room is needed, the bytes don't fit a frame.
 pub long_by : (seat : Option Seat) (s : Seat) (bytes : List ℕ) (more : ℕ) → seat ≡ Some s → 1 ≤ more

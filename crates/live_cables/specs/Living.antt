@@ -1,9 +1,11 @@
 -- The contents of live cables.
-use Rattle.std.specs.Prelude.{Bool, Contains, IsTrue, List, Option, false, length, slice_get, take, ℕ, ◌++◌, ◌∷◌, ◌≡◌, ◌⊎◌}
+use Rattle.std.specs.Prelude.{Bool, Contains, IsTrue, List, Option, [], false, length, slice_get, take, ℕ, ◌++◌, ◌∷◌, ◌≡◌, ◌⊎◌, ◌↔◌}
 use Rattle.std.specs.Option.{unwrap_or}
 use Rattle.aarp.specs.Mapping.{Mappings, shed, to_ask}
 use Rattle.at_base.specs.Range.{Span}
 use Rattle.at_base.specs.declared.address.Addr.{Addr}
+use Rattle.at_base.specs.declared.error.Error.{Error}
+use Rattle.at_base.specs.declared.error.Error.TheVariants.{Full}
 use Rattle.cable_model.specs.Logs.{Cabling, transcript, pending_on}
 use Rattle.cable_model.specs.Outcomes.{heard_by}
 use Rattle.cable_model.specs.Outgoing.{IsSent}
@@ -12,7 +14,7 @@ use Rattle.cable_model.specs.Transcript.{Entry, Took, count}
 use Rattle.live_cables.specs.Finding.{Knowing, held_at as held_in, places_of}
 use Rattle.live_cables.specs.Holding.{AreShed, Holds, with_tick}
 use Rattle.live_cables.specs.Playing.{IsPlayed, are_lost, is_took}
-use Rattle.live_cables.specs.Putting.{AreAsked, AreGiven}
+use Rattle.live_cables.specs.Putting.{AreAsked, AreGiven, AreGivenUpTo}
 use Rattle.live_cables.specs.Steps.{HasNoRoom, Loses, are_gone, losses_since}
 use Rattle.live_cables.specs.Taking.{IsTakenIn}
 use Rattle.station.specs.Hearing.{Hearing}
@@ -90,17 +92,20 @@ GivesOut station outputs old new =
     × Loses (losses_since old.losing (length old.cabling.lines) mid.0) mid.0 new.cabling × (new.maps ≡ mid.1.maps)
     × Stays old new
 
--- A station's outputs were sent, and nothing else changed.
-abbrev pub Sends : ℕ → List Output → Wires → Wires → Type 0
-Sends station outputs old new =
+-- The first of a station's outputs were sent, the next one was refused by this error, and nothing else changed.
+abbrev pub SendsUpTo : Error → ℕ → List Output → List Output → Wires → Wires → Type 0
+SendsUpTo e station outputs left old new =
     (mid : Cabling × Knowing)
-    × AreGiven station outputs (old.cabling, knowing old station) mid × (new.cabling ≡ mid.0) × (new.maps ≡ mid.1.maps)
-    × Stays old new
+    × AreGivenUpTo e station outputs left (old.cabling, knowing old station) mid × (new.cabling ≡ mid.0)
+    × (new.maps ≡ mid.1.maps) × Stays old new
 
--- The first of a station's outputs were sent; or all of them were, and then some of the frames were lost that this call
--- put on cables that lose frames.
-abbrev pub GivesInPart : ℕ → List Output → Wires → Wires → Type 0
-GivesInPart station outputs old new = ((n : ℕ) × Sends station (take n outputs) old new) ⊎ GivesOut station outputs old new
+-- The first of a station's outputs were sent, and the next one was refused by this error; or all of them were sent, and
+-- then some of the frames were lost that this call put on cables that lose frames, and the error is Full where there is
+-- no room for another loss, and only there.
+abbrev pub GivesInPart : Error → ℕ → List Output → List Output → Wires → Wires → Type 0
+GivesInPart e station outputs left old new =
+    SendsUpTo e station outputs left old new
+    ⊎ (GivesOut station outputs old new × (left ≡ []) × ((e ≡ Full) ↔ HasNoRoom 1 new.cabling))
 
 -- There was room for as many entries as a take may need. A station took a frame, resolving addresses by its own mappings,
 -- and its outputs were sent, or held; then the mapping of an AARP response was learnt, and the datagrams that were held for

@@ -1,11 +1,13 @@
 -- The frames that a seat's station puts on its cable.
-use Rattle.std.specs.Prelude.{◌≡◌, ◌⊎◌, ◌<◌, ◌==◌, ℕ, cond, false, List, [], ◌∷◌, length, nat_le, Option, Some, None}
+use Rattle.std.specs.Prelude.{◌≡◌, ◌⊎◌, ◌↔◌, ◌<◌, ◌≤◌, ◌==◌, ◌++◌, ℕ, cond, false, List, [], ◌∷◌, length, nat_le, Option, Some, None}
 use Rattle.std.specs.Prelude.{slice_get, option_and_then}
 use Rattle.std.specs.List.{list_any}
 use Rattle.aarp.specs.Packets.{packet, written}
 use Rattle.at_base.specs.Spelling.{Spells}
 use Rattle.at_base.specs.declared.address.Addr.{Addr}
 use Rattle.at_base.specs.declared.address.Hw.{Hw}
+use Rattle.at_base.specs.declared.error.Error.{Error}
+use Rattle.at_base.specs.declared.error.Error.TheVariants.{Full}
 use Rattle.at_base.specs.Multicast.{all_hw}
 use Rattle.cable_model.specs.Logs.{Adds, Cabling, transcript, pending_on}
 use Rattle.cable_model.specs.Outcomes.{IsHeard, framed, has_cable, is_named, is_seated}
@@ -14,6 +16,7 @@ use Rattle.cable_model.specs.Transcript.{next_stamp}
 use Rattle.cable_model.specs.declared.seat.Seat.{Seat}
 use Rattle.live_cables.specs.Finding.{Knowing, answer_of, own_or_none, places_of, request_for, seat_by}
 use Rattle.live_cables.specs.Holding.{Holds}
+use Rattle.live_cables.specs.Steps.{HasNoRoom}
 use Rattle.live_cables.specs.declared.answer.Answer.{Answer}
 use Rattle.station.specs.Hearing.{Hearing}
 use Rattle.station.specs.declared.heard.Kind.{Kind}
@@ -87,6 +90,16 @@ abbrev pub AreGiven : ℕ → List Output → Cabling × Knowing → Cabling × 
 AreGiven station [] old new = (new.0 ≡ old.0) × (new.1 ≡ old.1)
 AreGiven station (o ∷ os) old new =
     (mid : Cabling × Knowing) × IsGiven station o old mid × AreGiven station os mid new
+
+-- The first outputs of a station were sent, and the next one was refused by this error, which is Full where there is too
+-- little room for that output, and only there. It is taken out of the queue, and those behind it are left.
+pub record AreGivenUpTo (e : Error) (station : ℕ) (outputs left : List Output) (old new : Cabling × Knowing) : Type 0 where
+  pub sent : List Output
+  pub next : Output
+  pub all : outputs ≡ sent ++ next ∷ left
+  pub given : AreGiven station sent old new
+  pub needs : 1 ≤ room_of new.1.seats station next
+  pub full : (e ≡ Full) ↔ HasNoRoom (room_of new.1.seats station next) new.0
 
 -- This is the content of the AARP response in a frame that is pending for a station, or None if the frame is no
 -- response or isn't pending.

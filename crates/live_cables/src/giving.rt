@@ -1,12 +1,12 @@
 //! Sends a station's outputs of a tick.
 
-ghost use Rattle.std.specs.Prelude.{IfErr, IsOk, OnErr, OnOk, [], ℕ, ◌≡◌, ◌≤◌, ◌⊎◌, drop, option_and_then};
-ghost use Rattle.std.specs.Prelude.{slice_get, take};
+ghost use Rattle.std.specs.Prelude.{IfErr, IsOk, OnErr, OnOk, [], ◌≡◌, ◌≤◌, ◌⊎◌, ◌↔◌, option_and_then};
+ghost use Rattle.std.specs.Prelude.{slice_get};
 ghost use Rattle.std.specs.List.{AllByRecursion};
 ghost use Rattle.cable_model.specs.Rooms.{held_rooms};
 ghost use Rattle.live_cables.specs.Finding.{seat_by};
 ghost use Rattle.live_cables.specs.Holding.{KnowsSame};
-ghost use Rattle.live_cables.specs.Putting.{AreGiven, IsGiven, first_room, room_of};
+ghost use Rattle.live_cables.specs.Putting.{AreGiven, AreGivenUpTo, IsGiven, first_room, room_of};
 ghost use Rattle.live_cables.specs.Steps.{HasNoRoom, IsSendable, Puts};
 
 use crate::neighbours::Neighbours;
@@ -40,12 +40,10 @@ fn give(
     ensures puts { Puts cables.old cables.new }
     ensures near { KnowsSame near.old near.new }
     ensures rooms { cables.new.rooms ≡ held_rooms }
-    ensures full { (result ≡ Err Error.Full) → HasNoRoom 5 cables.new }
-    ensures no_room { 1 ≤ room_of near.old.seats station output
-        → HasNoRoom (room_of near.old.seats station output) cables.old → result ≡ Err Error.Full }
+    ensures full { (result ≡ Err Error.Full) ↔ ((1 ≤ room_of near.old.seats station output)
+        × HasNoRoom (room_of near.old.seats station output) cables.old) }
     ensures ignored { room_of near.old.seats station output ≡ 0
         → IsOk result × (cables.new ≡ cables.old) }
-    ensures memory { result ≡ Err Error.Memory → HasNoRoom 1 cables.new → ⊥ }
     ensures kept { OnErr result (cables.new ≡ cables.old) }
     ensures near_stays { OnErr result (near.new ≡ near.old) }
     ensures refused { IfErr result (λ e. (e ≡ Error.Full) ⊎ (e ≡ Error.Memory)) }
@@ -75,8 +73,8 @@ pub fn give_all(
     requires seats { near.old.seats ≡ cables.old.seats }
     requires rooms { cables.old.rooms ≡ held_rooms }
     ensures given { OnOk result (AreGiven station outputs.old.items (cables.old, near.old) (cables.new, near.new)) }
-    ensures part { OnErr result ((n : ℕ)
-        × AreGiven station (take n outputs.old.items) (cables.old, near.old) (cables.new, near.new)) }
+    ensures part { IfErr result (λ e. AreGivenUpTo e station outputs.old.items outputs.new.items
+        (cables.old, near.old) (cables.new, near.new)) }
     ensures puts { Puts cables.old cables.new }
     ensures near { KnowsSame near.old near.new }
     ensures rooms { cables.new.rooms ≡ held_rooms }
@@ -87,7 +85,6 @@ pub fn give_all(
     ensures memory { result ≡ Err Error.Memory → HasNoRoom 1 cables.new → ⊥ }
     ensures refused { IfErr result (λ e. (e ≡ Error.Full) ⊎ (e ≡ Error.Memory)) }
     ensures emptied { OnOk result (outputs.new.items ≡ []) }
-    ensures left { (n : ℕ) × (outputs.new.items ≡ drop n outputs.old.items) }
 {
     let output = match outputs.pop() {
         Some(output) => output,

@@ -1,7 +1,7 @@
 //! Live cables.
 
 ghost use Rattle.std.specs.Prelude.{◌≡◌, ◌⊎◌, ◌↔◌, ◌==◌, ◌&&◌, ◌+◌, ◌<◌, ◌≤◌, [], IfErr, IfOk, IfNone, IfSome};
-ghost use Rattle.std.specs.Prelude.{drop, false, length, nat_lt, slice_set, true, IsTrue, OnErr, OnOk, ℕ};
+ghost use Rattle.std.specs.Prelude.{false, length, nat_lt, slice_set, true, IsTrue, OnErr, OnOk, ℕ};
 ghost use Rattle.std.specs.List.{list_any};
 ghost use Rattle.aarp.specs.Mapping as mapping_spec;
 ghost use Rattle.aarp.specs.Mapping.{to_ask};
@@ -138,17 +138,17 @@ impl LiveCables {
     /// of other kinds are ignored.
     ///
     /// Errors, output by output and frame by frame: `Full`, `Memory`. After an error, the first
-    /// outputs are sent, or all of them are and not all frames that were to be lost are lost.
+    /// outputs are sent and the rest is left in the queue, without the output that was refused; or
+    /// all of them are sent, and not all frames that were to be lost are lost.
     pub fn give(&mut self, station: u16, outputs: &mut Outputs) -> Result<(), Error>
         requires lawful { (n : ℕ) × AreLawful n outputs.old.items }
         ensures plays { Plays self.old self.new }
         ensures given { OnOk result
             (GivesOut station outputs.old.items self.old self.new) }
-        ensures part { OnErr result
-            (GivesInPart station outputs.old.items self.old self.new) }
+        ensures part { IfErr result (λ e.
+            GivesInPart e station outputs.old.items outputs.new.items self.old self.new) }
         ensures done { OnOk result (PlaysOn 0 self.old self.new) }
         ensures emptied { OnOk result (outputs.new.items ≡ []) }
-        ensures left { (n : ℕ) × (outputs.new.items ≡ drop n outputs.old.items) }
         ensures full { (result ≡ Err Error.Full) → HasNoRoom 5 self.new.cabling }
         ensures no_room { 1 ≤ first_room self.old.cabling.seats station outputs.old.items
             → HasNoRoom (first_room self.old.cabling.seats station outputs.old.items)
@@ -231,9 +231,11 @@ impl LiveCables {
         ensures done { OnOk result (PlaysOn 1 self.old self.new) }
         ensures heard { OnOk result (IsTakenBy self.old self.new stamp station
             (λ h added. S.hears taker.old h added taker.new)) }
-        ensures stopped { OnErr result (((self.new ≡ self.old) × (taker.new ≡ taker.old))
-            ⊎ TakesIn stamp station (S.ports_of taker.old)
-            (λ h added. S.hears taker.old h added taker.new) self.old self.new) }
+        // Where the take is done, a loss needs room for one entry.
+        ensures stopped { IfErr result (λ e. ((self.new ≡ self.old) × (taker.new ≡ taker.old))
+            ⊎ (TakesIn stamp station (S.ports_of taker.old)
+            (λ h added. S.hears taker.old h added taker.new) self.old self.new
+            × ((e ≡ Error.Full) ↔ HasNoRoom 1 self.new.cabling))) }
         ensures still_taken { self.old.losing ≡ [] → OnOk result
             (TakesStill stamp station (S.ports_of taker.old)
             (λ h added. S.hears taker.old h added taker.new) self.old self.new) }

@@ -56,13 +56,13 @@ done_for plan stations index station action m old new at who there does =
 -- ---- An action that was stopped
 
 pub stops_for : (plan : Planned) (stations : List (Member Living LivingNode)) (index station : ℕ) (action : Action)
-    (m : Member Living LivingNode) (old new : Wires) → slice_get plan.actions index ≡ Some action
+    (m : Member Living LivingNode) (e : Error) (old new : Wires) → slice_get plan.actions index ≡ Some action
     → station ≡ station_for plan action → slice_get stations station ≡ Some m
-    → StopsDoing m station action.action old new → StopsAction plan stations index old new
-stops_for plan stations index station action m old new at who there stops = record {
+    → StopsDoing e m station action.action old new → StopsAction e plan stations index old new
+stops_for plan stations index station action m e old new at who there stops = record {
   action = action;
   m = m;
   planned = at;
   there = ap (slice_get stations) (sym who) ∙ there;
-  stops = subst (λ s. StopsDoing m s action.action old new) who stops;
+  stops = subst (λ s. StopsDoing e m s action.action old new) who stops;
 }

@@ -1,9 +1,9 @@
 -- The stations after a step that was refused.
-use Rattle.std.proofs.Common.{◌≡◌, ◌⊎◌, inl, inr, ℕ, zero, suc, List, [], ◌∷◌, Option, Some, slice_get, slice_set, refl, ap, ◌∙◌}
-use Rattle.std.specs.Prelude.{Err, IfErr, Ok, OnErr, Result}
-use Rattle.std.proofs.lemmas.Result.{on_err_weaker}
+use Rattle.std.proofs.Common.{◌≡◌, ◌⊎◌, ◌↔◌, inl, inr, ℕ, zero, suc, List, [], ◌∷◌, Option, Some, slice_get, slice_set, refl, ap, ◌∙◌, subst}
+use Rattle.std.specs.Prelude.{Err, IfErr, IsOkUnless, Ok, Result}
+use Rattle.std.proofs.lemmas.Result.{IfErr-weaker}
 use Rattle.at_base.specs.declared.error.Error.{Error}
-use Rattle.at_base.specs.declared.error.Error.TheVariants.{Full}
+use Rattle.at_base.specs.declared.error.Error.TheVariants.{Full, Memory}
 use Rattle.cable_model.specs.Logs.{pending_on}
 use Rattle.cable_model.specs.Outcomes.{IsLeast}
 use Rattle.live_cables.specs.Living.{TakesIn, Wires}
@@ -24,10 +24,11 @@ set_itself [] k x at = refl
 set_itself (y ∷ xs) zero x at = let is : y ≡ x = cc in cc
 set_itself (y ∷ xs) (suc k) x at = ap (λ l. y ∷ l) (set_itself xs k x at)
 
--- What always holds, holds after an error.
-pub any_error : {T E : Type 0} {P : Type 0} (r : Result T E) → P → OnErr r P
-any_error (Ok x) p = tt
-any_error (Err e) p = p
+-- What holds where memory ran out, holds after an error that can be nothing else.
+pub memory_error : {T : Type 0} (r : Result T Error) (Q : Error → Type 0) → IsOkUnless r Memory → ((e : Error) → e ≡ Memory → Q e)
+    → IfErr r Q
+memory_error (Ok x) Q refused f = tt
+memory_error (Err e) Q refused f = f e refused
 
 -- A station took a frame, or it stays the same.
 module _ (ms : List (Member Living LivingNode)) (k stamp : ℕ) (old new : Wires) (before after : Member Living LivingNode)
@@ -35,35 +36,36 @@ module _ (ms : List (Member Living LivingNode)) (k stamp : ℕ) (old new : Wires
   abbrev TakesIt : Type 0
   TakesIt = TakesIn stamp k (ports_of before) (λ heard added. EitherHears RouterHears NodeHears before heard added after) old new
 
-  abbrev TakesOrStays : Type 0
-  TakesOrStays = ((slice_set ms k after ≡ ms) × (new ≡ old)) ⊎ IsTaker stamp k ms (slice_set ms k after) old new
+  abbrev TakesOrStays : Error → Type 0
+  TakesOrStays e =
+      ((slice_set ms k after ≡ ms) × (new ≡ old))
+      ⊎ (IsTaker stamp k ms (slice_set ms k after) old new × ((e ≡ Full) ↔ HasNoRoom 1 new.cabling))
 
-  takes_or_stays : ((new ≡ old) × (after ≡ before)) ⊎ TakesIt → TakesOrStays
-  takes_or_stays (inl same) = inl (ap (slice_set ms k) same.1 ∙ set_itself ms k before at, same.0)
-  takes_or_stays (inr x) = inr (record {
-    m = before;
-    after = after;
-    there = at;
-    does = x;
-    set = refl;
-  })
+  takes_or_stays : (e : Error) → ((new ≡ old) × (after ≡ before)) ⊎ (TakesIt × ((e ≡ Full) ↔ HasNoRoom 1 new.cabling)) → TakesOrStays e
+  takes_or_stays e (inl same) = inl (ap (slice_set ms k) same.1 ∙ set_itself ms k before at, same.0)
+  takes_or_stays e (inr x) =
+      inr (record {
+        m = before;
+        after = after;
+        there = at;
+        does = x.0;
+        set = refl;
+      }, x.1)
 
-  pub take_stopped : {U : Type 0} (r : Result U Error) → OnErr r (((new ≡ old) × (after ≡ before)) ⊎ TakesIt) → OnErr r TakesOrStays
-  take_stopped r x = on_err_weaker r takes_or_stays x
+  pub take_stopped : {U : Type 0} (r : Result U Error)
+      → IfErr r (λ e. ((new ≡ old) × (after ≡ before)) ⊎ (TakesIt × ((e ≡ Full) ↔ HasNoRoom 1 new.cabling))) → IfErr r TakesOrStays
+  take_stopped r x = IfErr-weaker r _ _ takes_or_stays x
 
 -- The taking of the first frame was refused.
 pub first_stopped : (stamp station : ℕ) (ms now : List (Member Living LivingNode)) (old new : Wires) (e : Error)
     → IsLeast (pending_on old.cabling) stamp station → (HasNoRoom 1285 old.cabling → e ≡ Full)
-    → ((now ≡ ms) × (new ≡ old)) ⊎ IsTaker stamp station ms now old new → MayTake e ms now old new
-first_stopped stamp station ms now old new e least room (inl same) = inl (same.0, same.1, room)
-first_stopped stamp station ms now old new e least room (inr taken) =
-    inr (record { stamp = stamp; station = station; least = least; by = taken })
-
--- What holds of an error, with what holds where it is Full.
-pub of_error : {T P : Type 0} {Q R : Error → Type 0} (r : Result T Error) → ((e : Error) → Q e → (e ≡ Full → P) → R e)
-    → IfErr r Q → (r ≡ Err Full → P) → IfErr r R
-of_error (Ok x) f q full = tt
-of_error (Err e) f q full = f e q (λ same. full (ap Err same))
+    → (e ≡ Full → HasNoRoom 1285 new.cabling)
+    → ((now ≡ ms) × (new ≡ old)) ⊎ (IsTaker stamp station ms now old new × ((e ≡ Full) ↔ HasNoRoom 1 new.cabling))
+    → MayTake e ms now old new
+first_stopped stamp station ms now old new e least room full (inl same) =
+    inl (same.0, same.1, (λ is. subst (λ (w : Wires). HasNoRoom 1285 w.cabling) same.1 (full is)), room)
+first_stopped stamp station ms now old new e least room full (inr taken) =
+    inr (record { stamp = stamp; station = station; least = least; by = taken.0 }, taken.1)
 
 -- A tick is counted before its phases.
 pub tick_counted : (old new : Worldly) (now : ℕ) → IsTick (record old { now = now }) new → IsTick old new

@@ -1,6 +1,6 @@
 -- What a tick that was refused leaves: the steps before the refused one are done, and of the refused one only what is
 -- stated here.
-use Rattle.std.specs.Prelude.{◌≡◌, ◌⊎◌, ℕ, zero, suc, ◌+◌, ◌<◌, ◌≤◌, List, [], ◌∷◌, ◌++◌, Bool, Ok, Some, length, slice_get}
+use Rattle.std.specs.Prelude.{◌≡◌, ◌⊎◌, ◌↔◌, ℕ, zero, suc, ◌+◌, ◌<◌, ◌≤◌, List, [], ◌∷◌, ◌++◌, Bool, Ok, Some, length, slice_get}
 use Rattle.at_base.specs.declared.error.Error.{Error}
 use Rattle.at_base.specs.declared.error.Error.TheVariants.{Full, Memory}
 use Rattle.internet_file.specs.Files.{Planned}
@@ -28,61 +28,65 @@ use Rattle.world.specs.Worlds.{Worldly}
 
 -- The station with this number and this first seat advanced by a tick, its settled addresses were set, and not all of its
 -- outputs were sent, or not all frames were lost that are to be.
-pub record HasAdvanced (number seat : ℕ) (m now : Member Living LivingNode) (old new : Wires) : Type 0 where
+pub record HasAdvanced (e : Error) (number seat : ℕ) (m now : Member Living LivingNode) (old new : Wires) : Type 0 where
   pub outputs : List Output
+  pub left : List Output
   pub ticks : EitherTicks RouterTicks NodeTicks m outputs now
-  pub gives : GivesInPart number outputs (record old { own = settled_own now seat (ports_of now) old.own }) new
+  pub gives : GivesInPart e number outputs left (record old { own = settled_own now seat (ports_of now) old.own }) new
 
--- The station with this number and this first seat advanced by a tick, or nothing happened.
-abbrev pub MayTick : ℕ → ℕ → Member Living LivingNode → Member Living LivingNode → Wires → Wires → Type 0
-MayTick number seat m now old new = ((now ≡ m) × (new ≡ old)) ⊎ HasAdvanced number seat m now old new
+-- The station with this number and this first seat advanced by a tick, or nothing happened and memory ran out.
+abbrev pub MayTick : Error → ℕ → ℕ → Member Living LivingNode → Member Living LivingNode → Wires → Wires → Type 0
+MayTick e number seat m now old new =
+    ((e ≡ Memory) × (now ≡ m) × (new ≡ old)) ⊎ HasAdvanced e number seat m now old new
 
 -- The mappings of the first of `ports` seats of a station, from index `seat` on, advanced by a tick, and those of the
--- next one were stopped.
-pub record StopsAt (seat ports : ℕ) (m now : Member Living LivingNode) (old new : Wires) : Type 0 where
+-- next one were stopped: by Full where there is no room for another entry, and only there.
+pub record StopsAt (e : Error) (seat ports : ℕ) (m now : Member Living LivingNode) (old new : Wires) : Type 0 where
   pub aged : ℕ
   pub some : aged < ports
   pub last : Wires
   pub ages : AreAged seat aged m now old last
   pub passes : PassesInPart (seat + aged) last new
+  pub full : (e ≡ Full) ↔ HasNoRoom 1 new.cabling
 
 -- The station with this number and this first seat advanced by a tick, and so did the mappings of its first ports, but
 -- not those of all.
-pub record StopsAging (number seat : ℕ) (m now : Member Living LivingNode) (old new : Wires) : Type 0 where
+pub record StopsAging (e : Error) (number seat : ℕ) (m now : Member Living LivingNode) (old new : Wires) : Type 0 where
   pub ticked : Member Living LivingNode
   pub mid : Wires
   pub ticks : HasTicked number seat m ticked old mid
-  pub stops : StopsAt seat (ports_of ticked) ticked now mid new
+  pub stops : StopsAt e seat (ports_of ticked) ticked now mid new
 
 -- The station with this number and this first seat was stopped in its tick: as it advanced, or after that, as the
 -- mappings of its ports did.
-abbrev pub StopsPassing : ℕ → ℕ → Member Living LivingNode → Member Living LivingNode → Wires → Wires → Type 0
-StopsPassing number seat m now old new = MayTick number seat m now old new ⊎ StopsAging number seat m now old new
+abbrev pub StopsPassing : Error → ℕ → ℕ → Member Living LivingNode → Member Living LivingNode → Wires → Wires → Type 0
+StopsPassing e number seat m now old new = MayTick e number seat m now old new ⊎ StopsAging e number seat m now old new
 
 -- The first stations advanced by a tick, and the next one was stopped in its tick.
-pub record ArePassing (stations now : List (Member Living LivingNode)) (old new : Wires) : Type 0 where
+pub record ArePassing (e : Error) (stations now : List (Member Living LivingNode)) (old new : Wires) : Type 0 where
   pub number : ℕ
   pub seat : ℕ
   pub before : List (Member Living LivingNode)
   pub mid : Wires
   pub passes : HavePassed number seat stations before old mid
-  pub stops : IsOne number before now (λ m after. StopsPassing number seat m after mid new)
+  pub stops : IsOne number before now (λ m after. StopsPassing e number seat m after mid new)
 
 -- ---- The actions are carried out
 
--- An operation of a station was stopped: nothing changed, or not all of its outputs were sent, or not all frames were lost
--- that are to be.
-abbrev pub StopsDoing : Member Living LivingNode → ℕ → Do → Wires → Wires → Type 0
-StopsDoing m station action old new =
-    (new ≡ old) ⊎ ((outputs : List Output) × (acted_by m action ≡ Ok outputs) × GivesInPart station outputs old new)
+-- An operation of a station was stopped: nothing changed and memory ran out, or not all of its outputs were sent, or not all
+-- frames were lost that are to be.
+abbrev pub StopsDoing : Error → Member Living LivingNode → ℕ → Do → Wires → Wires → Type 0
+StopsDoing e m station action old new =
+    ((e ≡ Memory) × (new ≡ old))
+    ⊎ ((outputs left : List Output) × (acted_by m action ≡ Ok outputs) × GivesInPart e station outputs left old new)
 
 -- The action with this index was stopped.
-pub record StopsAction (plan : Planned) (stations : List (Member Living LivingNode)) (index : ℕ) (old new : Wires) : Type 0 where
+pub record StopsAction (e : Error) (plan : Planned) (stations : List (Member Living LivingNode)) (index : ℕ) (old new : Wires) : Type 0 where
   pub action : Action
   pub m : Member Living LivingNode
   pub planned : slice_get plan.actions index ≡ Some action
   pub there : slice_get stations (station_for plan action) ≡ Some m
-  pub stops : StopsDoing m (station_for plan action) action.action old new
+  pub stops : StopsDoing e m (station_for plan action) action.action old new
 
 -- n actions at the end of the schedule, all of this tick, were carried out, the last one first.
 abbrev pub AreFirstDone : Planned → List (Member Living LivingNode) → ℕ → ℕ → List ℕ → List ℕ → Wires × List (ℕ × ℕ)
@@ -95,7 +99,7 @@ AreFirstDone plan stations now (suc n) schedule left old new =
 
 -- Actions of this tick were carried out, and the next one was stopped: it isn't in the schedule any more, and no error of
 -- it is recorded.
-pub record AreActing (plan : Planned) (stations : List (Member Living LivingNode)) (now : ℕ) (schedule left : List ℕ)
+pub record AreActing (e : Error) (plan : Planned) (stations : List (Member Living LivingNode)) (now : ℕ) (schedule left : List ℕ)
     (old new : Wires × List (ℕ × ℕ)) : Type 0 where
   pub done : ℕ
   pub between : List ℕ
@@ -104,16 +108,18 @@ pub record AreActing (plan : Planned) (stations : List (Member Living LivingNode
   pub index : ℕ
   pub next : between ≡ left ++ index ∷ []
   pub due : tick_of plan.actions index ≡ Some now
-  pub stops : StopsAction plan stations index mid.0 new.0
+  pub stops : StopsAction e plan stations index mid.0 new.0
   pub same : new.1 ≡ mid.1
 
 -- ---- Frames are taken
 
--- The next frame wasn't taken and nothing changed, and the error is Full if there is no room to take it; or it was taken,
--- and not all frames were lost that are to be.
+-- The next frame wasn't taken and nothing changed, and the error is Full where there is no room to take it, and only there;
+-- or it was taken, and not all frames were lost that are to be, and the error is Full where there is no room for another
+-- loss, and only there.
 abbrev pub MayTake : Error → List (Member Living LivingNode) → List (Member Living LivingNode) → Wires → Wires → Type 0
 MayTake e stations now old new =
-    ((now ≡ stations) × (new ≡ old) × (HasNoRoom 1285 old.cabling → e ≡ Full)) ⊎ IsTaken stations now old new
+    ((now ≡ stations) × (new ≡ old) × ((e ≡ Full) ↔ HasNoRoom 1285 old.cabling))
+    ⊎ (IsTaken stations now old new × ((e ≡ Full) ↔ HasNoRoom 1 new.cabling))
 
 -- Frames were taken, fewer than `most`, and the taking of the next one was refused.
 pub record AreTaking (e : Error) (most : ℕ) (stations now : List (Member Living LivingNode)) (old new : Wires) : Type 0 where
@@ -127,19 +133,19 @@ pub record AreTaking (e : Error) (most : ℕ) (stations now : List (Member Livin
 -- ---- The tick
 
 -- All stations advanced by a tick, and the tick was stopped in one of its actions.
-pub record HaveAllPassed (plan : Planned) (tick : ℕ) (stations now : List (Member Living LivingNode)) (old new : Wires)
+pub record HaveAllPassed (e : Error) (plan : Planned) (tick : ℕ) (stations now : List (Member Living LivingNode)) (old new : Wires)
     (refused refused_now : List (ℕ × ℕ)) (schedule left : List ℕ) : Type 0 where
   pub seats : ℕ
   pub wires : Wires
   pub passes : HavePassed (length stations) seats stations now old wires
-  pub acting : AreActing plan now tick schedule left (wires, refused) (new, refused_now)
+  pub acting : AreActing e plan now tick schedule left (wires, refused) (new, refused_now)
 
 -- A tick was stopped as the stations advanced, before any of its actions, or as its actions were carried out.
-abbrev pub StopsBefore : Planned → ℕ → List (Member Living LivingNode) → List (Member Living LivingNode) → Wires → Wires
+abbrev pub StopsBefore : Error → Planned → ℕ → List (Member Living LivingNode) → List (Member Living LivingNode) → Wires → Wires
     → List (ℕ × ℕ) → List (ℕ × ℕ) → List ℕ → List ℕ → Type 0
-StopsBefore plan tick stations now old new refused refused_now schedule left =
-    (ArePassing stations now old new × (refused_now ≡ refused) × (left ≡ schedule))
-    ⊎ HaveAllPassed plan tick stations now old new refused refused_now schedule left
+StopsBefore e plan tick stations now old new refused refused_now schedule left =
+    (ArePassing e stations now old new × (refused_now ≡ refused) × (left ≡ schedule))
+    ⊎ HaveAllPassed e plan tick stations now old new refused refused_now schedule left
 
 -- The stations advanced by a tick and its actions were carried out, and it was stopped as frames were taken.
 pub record StopsTaking (e : Error) (plan : Planned) (tick : ℕ) (stations now : List (Member Living LivingNode)) (old new : Wires)
@@ -148,14 +154,12 @@ pub record StopsTaking (e : Error) (plan : Planned) (tick : ℕ) (stations now :
   pub acted : Wires
   pub begins : Begins plan tick stations passed old acted refused refused_now schedule left
   pub taking : AreTaking e 10000 passed now acted new
-  pub full : e ≡ Full → HasNoRoom 1285 new.cabling
 
--- A tick was stopped in one of its three phases; the error is Full only if there is no room for what the step may add: 5
--- entries before frames are taken, and 1,285 then.
+-- A tick was stopped in one of its three phases.
 abbrev pub StopsIn : Error → Planned → ℕ → List (Member Living LivingNode) → List (Member Living LivingNode) → Wires → Wires
     → List (ℕ × ℕ) → List (ℕ × ℕ) → List ℕ → List ℕ → Type 0
 StopsIn e plan tick stations now old new refused refused_now schedule left =
-    (StopsBefore plan tick stations now old new refused refused_now schedule left × (e ≡ Full → HasNoRoom 5 new.cabling))
+    StopsBefore e plan tick stations now old new refused refused_now schedule left
     ⊎ StopsTaking e plan tick stations now old new refused refused_now schedule left
 
 -- A tick of the world was stopped in one of its phases, with the losses that the plan has for it.

@@ -99,8 +99,8 @@ fn act_one<T: RouteTable>(
     ensures is_done { OnOk result (IsDone plan.now stations.now index
         (wires.old, refused.old.items) (wires.new, refused.new.items)) }
     ensures stays { OnErr result (refused.new.items ≡ refused.old.items) }
-    ensures stopped { OnErr result
-        (StopsAction plan.now stations.now index wires.old wires.new) }
+    ensures stopped { IfErr result (λ e.
+        StopsAction e plan.now stations.now index wires.old wires.new) }
     ensures keeps { KeepsFirst refused.old.items refused.new.items }
     ensures did { Did (GoesOn 0 wires.old wires.new) 5 wires.old wires.new result }
 {
@@ -150,7 +150,7 @@ pub fn act_all<T: RouteTable>(
     ensures are_done { OnOk result ((actions : ℕ) × AreDone plan.now stations.now now actions
         schedule.old.items schedule.new.items
         (wires.old, refused.old.items) (wires.new, refused.new.items)) }
-    ensures stopped { OnErr result (AreActing plan.now stations.now now
+    ensures stopped { IfErr result (λ e. AreActing e plan.now stations.now now
         schedule.old.items schedule.new.items
         (wires.old, refused.old.items) (wires.new, refused.new.items)) }
     ensures keeps { KeepsFirst refused.old.items refused.new.items }

@@ -39,9 +39,9 @@ fn before_takings<T: RouteTable>(
     ensures begins { OnOk result (Begins plan.now now stations.old.items stations.new.items
         wires.old wires.new refused.old.items refused.new.items
         schedule.old.items schedule.new.items) }
-    ensures stopped { OnErr result (StopsBefore plan.now now stations.old.items stations.new.items
-        wires.old wires.new refused.old.items refused.new.items
-        schedule.old.items schedule.new.items) }
+    ensures stopped { IfErr result (λ e. StopsBefore e plan.now now
+        stations.old.items stations.new.items wires.old wires.new
+        refused.old.items refused.new.items schedule.old.items schedule.new.items) }
 {
     match tick_all(*refused.allocator(), stations, wires) {
         Ok(()) => {}

@@ -1,9 +1,10 @@
 //! Advances the stations of a world by a tick.
 
-ghost use Rattle.std.specs.Prelude.{◌≡◌, ◌≤◌, ℕ, fold, length, map, slice_get};
-ghost use Rattle.std.specs.Prelude.{OnErr, OnOk, Some};
+ghost use Rattle.std.specs.Prelude.{◌≡◌, ◌↔◌, ◌≤◌, ℕ, fold, length, map, slice_get};
+ghost use Rattle.std.specs.Prelude.{IfErr, OnErr, OnOk, Some};
 ghost use Rattle.station.specs.declared.member.Member.{Member as MemberValue};
 ghost use Rattle.live_cables.specs.Living.{PassesInPart};
+ghost use Rattle.live_cables.specs.Steps.{HasNoRoom};
 ghost use Rattle.live_node.specs.Living.{LivingNode};
 ghost use Rattle.live_router.specs.Living.{Living};
 ghost use Rattle.planned_stations.specs.Planning.{ports_of};
@@ -85,6 +86,7 @@ fn age_mappings<T: RouteTable>(
     ensures aged { OnOk result (IsAged seat station.old station.new wires.old wires.new) }
     ensures stopped { OnErr result (station.new ≡ station.old) }
     ensures part { OnErr result (PassesInPart seat wires.old wires.new) }
+    ensures full { IfErr result (λ e. (e ≡ Error.Full) ↔ HasNoRoom 1 wires.new.cabling) }
     ensures did { Did (GoesOn 0 wires.old wires.new) 5 wires.old wires.new result }
 {
     if wires.is_idle(seat) {
@@ -111,8 +113,8 @@ fn age_all_mappings<T: RouteTable>(
     ensures ports { ports_of station.new ≡ ports_of station.old }
     ensures got { got station.new ≡ got station.old }
     ensures aged { OnOk result (AreAged seat ports station.old station.new wires.old wires.new) }
-    ensures stopped { OnErr result
-        (StopsAt seat ports station.old station.new wires.old wires.new) }
+    ensures stopped { IfErr result (λ e.
+        StopsAt e seat ports station.old station.new wires.old wires.new) }
     ensures did { Did (GoesOn 0 wires.old wires.new) 5 wires.old wires.new result }
 {
     for port in 0..ports {
@@ -137,7 +139,8 @@ fn tick<T: RouteTable>(
     ensures got { got station.new ≡ got station.old }
     ensures ticked { OnOk result
         (HasTicked number seat station.old station.new wires.old wires.new) }
-    ensures stopped { OnErr result (MayTick number seat station.old station.new wires.old wires.new) }
+    ensures stopped { IfErr result (λ e.
+        MayTick e number seat station.old station.new wires.old wires.new) }
     ensures did { Did (GoesOn 0 wires.old wires.new) 5 wires.old wires.new result }
 {
     let mut outputs = match Outputs::new(alloc) {
@@ -166,8 +169,8 @@ fn tick_station<T: RouteTable>(
     ensures got { got station.new ≡ got station.old }
     ensures passed { OnOk result
         (HasPassed number seat station.old station.new wires.old wires.new) }
-    ensures stopped { OnErr result
-        (StopsPassing number seat station.old station.new wires.old wires.new) }
+    ensures stopped { IfErr result (λ e.
+        StopsPassing e number seat station.old station.new wires.old wires.new) }
     ensures did { Did (GoesOn 0 wires.old wires.new) 5 wires.old wires.new result }
 {
     match tick(alloc, station, wires, number, seat) {
@@ -201,8 +204,8 @@ pub fn tick_all<T: RouteTable>(
     ensures got { map got stations.new.items ≡ map got stations.old.items }
     ensures passed { OnOk result ((seats : ℕ) × HavePassed (length stations.old.items) seats
         stations.old.items stations.new.items wires.old wires.new) }
-    ensures stopped { OnErr result
-        (ArePassing stations.old.items stations.new.items wires.old wires.new) }
+    ensures stopped { IfErr result (λ e.
+        ArePassing e stations.old.items stations.new.items wires.old wires.new) }
     ensures did { Did (GoesOn 0 wires.old wires.new) 5 wires.old wires.new result }
 {
     let mut seat = 0;

@@ -35,9 +35,10 @@ fn take<T: RouteTable>(
     ensures done { OnOk result (GoesOn 1 wires.old wires.new) }
     ensures taken { OnOk result (IsTaker stamp station stations.old.items stations.new.items
         wires.old wires.new) }
-    ensures stopped { OnErr result (((stations.new.items ≡ stations.old.items)
+    ensures stopped { IfErr result (λ e. ((stations.new.items ≡ stations.old.items)
         × (wires.new ≡ wires.old))
-        ⊎ IsTaker stamp station stations.old.items stations.new.items wires.old wires.new) }
+        ⊎ (IsTaker stamp station stations.old.items stations.new.items wires.old wires.new
+        × ((e ≡ Error.Full) ↔ HasNoRoom 1 wires.new.cabling))) }
     ensures received { AreReceived (happened wires.old) (map got stations.old.items)
         → AreReceived (happened wires.new) (map got stations.new.items) }
     ensures not_pending { (result ≡ Err Error.NotPending) ↔ (list_any (is_named stamp station)

@@ -86,6 +86,9 @@ loop-turn-preserved g c =
       reason = search rules;
       ended = search rules;
       counted = search rules;
+      held = search rules;
+      image = search rules;
+      flawed = search rules;
       none = search rules;
       fed = (_, c.feed-in-loop-turn.ensures.read fed.0 fed.1, Consumes-trans _ _ _ _ _ fed.2 (c.in-Ok.ensures {u = tt}).ok);
     }

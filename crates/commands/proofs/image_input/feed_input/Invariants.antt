@@ -10,6 +10,9 @@ invariant-loop-turn g l = record {
   reason : l.input.fault ≡ l.initial.input.fault;
   ended : l.input.ended ≡ l.initial.input.ended;
   counted : l.initial.input.reads ≤ l.input.reads;
+  held : l.input.kept ≡ l.initial.input.kept;
+  image : l.input.image ≡ l.initial.input.image;
+  flawed : l.input.flawed ≡ l.initial.input.flawed;
   none : l.feed.refused ≡ None;
   fed : (all : List ℕ) × HasRead l.feed all × Consumes (g.R.Read.remaining l.initial.input.reader) (g.R.Read.remaining l.input.reader) all;
 }

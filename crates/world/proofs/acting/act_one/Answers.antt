@@ -4,12 +4,12 @@ use Rattle.at_base.specs.declared.error.Error.{Error}
 use Rattle.at_base.specs.declared.error.Error.TheVariants.{Memory}
 use Rattle.std.proofs.lemmas.Bool.{ltb-true}
 use Rattle.std.proofs.lemmas.Option.{slice_get_read}
-use Rattle.std.proofs.lemmas.Result.{on_err_weaker, on_ok_weaker}
+use Rattle.std.proofs.lemmas.Result.{IfErr-weaker, on_ok_weaker}
 use Rattle.live_cables.specs.Living.{Wires}
 use Rattle.world.proofs.Going.{did_play, goes_none, goes_nowhere}
 use Rattle.world.specs.Going.{Did, GoesOn}
 use Rattle.world.proofs.Doing.{done_for, done_noted, done_ok, stops_for}
-use Rattle.world.proofs.Stopped.{any_error}
+use Rattle.world.proofs.Stopped.{memory_error}
 use Rattle.world.proofs.acting.act_one.Goals as goal
 
 -- A call that leaves the cables alone is refused only for memory.
@@ -63,32 +63,32 @@ returns-clause-is_done g c =
 
 pub returns-in_err-outputs-clause-stopped : goal.returns-in_err-outputs-clause-stopped
 returns-in_err-outputs-clause-stopped g c =
-    any_error c.from_residual.result
-    (stops_for c.args.plan.now c.args.stations.now c.args.index c.station_of-station.result c.in-Some.action.now
-    c.in-Some-get.member.now c.args.wires.now c.args.wires.now
+    memory_error c.from_residual.result _ (search rules)
+    (λ e is. stops_for c.args.plan.now c.args.stations.now c.args.index c.station_of-station.result c.in-Some.action.now
+    c.in-Some-get.member.now e c.args.wires.now c.args.wires.now
     (ap (λ l. slice_get l c.args.index) (sym c.actions.ensures.value) ∙ slice_get_read c.actions.result.now _ c.args.index _ refl
     (ltb-true _ _ (sym c.in-Some.ensures.lookup.0)) c.in-Some.ensures.lookup.1)
     c.station_of-station.ensures (slice_get_read c.args.stations.now _ c.station_of-station.result _ refl
-    (ltb-true _ _ (sym c.in-Some-get.ensures.lookup.0)) c.in-Some-get.ensures.lookup.1) (inl refl))
+    (ltb-true _ _ (sym c.in-Some-get.ensures.lookup.0)) c.in-Some-get.ensures.lookup.1) (inl (is, refl)))
 
 pub returns-in-Err-clause-stopped : goal.returns-in-Err-clause-stopped
 returns-in-Err-clause-stopped g c =
-    any_error c.note.result
-    (stops_for c.args.plan.now c.args.stations.now c.args.index c.station_of-station.result c.in-Some.action.now
-    c.in-Some-get.member.now c.args.wires.now c.args.wires.now
+    memory_error c.note.result _ c.note.ensures.refused
+    (λ e is. stops_for c.args.plan.now c.args.stations.now c.args.index c.station_of-station.result c.in-Some.action.now
+    c.in-Some-get.member.now e c.args.wires.now c.args.wires.now
     (ap (λ l. slice_get l c.args.index) (sym c.actions.ensures.value) ∙ slice_get_read c.actions.result.now _ c.args.index _ refl
     (ltb-true _ _ (sym c.in-Some.ensures.lookup.0)) c.in-Some.ensures.lookup.1)
     c.station_of-station.ensures (slice_get_read c.args.stations.now _ c.station_of-station.result _ refl
-    (ltb-true _ _ (sym c.in-Some-get.ensures.lookup.0)) c.in-Some-get.ensures.lookup.1) (inl refl))
+    (ltb-true _ _ (sym c.in-Some-get.ensures.lookup.0)) c.in-Some-get.ensures.lookup.1) (inl (is, refl)))
 
 pub returns-clause-stopped : goal.returns-clause-stopped
 returns-clause-stopped g c =
-    on_err_weaker c.give.result
-    (λ part. stops_for c.args.plan.now c.args.stations.now c.args.index c.station_of-station.result c.in-Some.action.now
-    c.in-Some-get.member.now c.args.wires.now c.give.new.self
+    IfErr-weaker c.give.result _ _
+    (λ e part. stops_for c.args.plan.now c.args.stations.now c.args.index c.station_of-station.result c.in-Some.action.now
+    c.in-Some-get.member.now e c.args.wires.now c.give.new.self
     (ap (λ l. slice_get l c.args.index) (sym c.actions.ensures.value) ∙ slice_get_read c.actions.result.now _ c.args.index _ refl
     (ltb-true _ _ (sym c.in-Some.ensures.lookup.0)) c.in-Some.ensures.lookup.1)
     c.station_of-station.ensures (slice_get_read c.args.stations.now _ c.station_of-station.result _ refl
     (ltb-true _ _ (sym c.in-Some-get.ensures.lookup.0)) c.in-Some-get.ensures.lookup.1)
-    (inr (c.act_by.new.outputs.items, c.in-Ok.ensures.acted, part)))
+    (inr (c.act_by.new.outputs.items, c.give.new.outputs.items, c.in-Ok.ensures.acted, part)))
     c.give.ensures.part

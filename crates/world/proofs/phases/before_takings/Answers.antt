@@ -1,5 +1,5 @@
 use Rattle.std.proofs.Common.{inl, inr, refl, subst}
-use Rattle.std.proofs.lemmas.Result.{on_err_weaker, on_ok_weaker}
+use Rattle.std.proofs.lemmas.Result.{IfErr-weaker, on_ok_weaker}
 use Rattle.world.proofs.Going.{did_then}
 use Rattle.world.specs.Acting.{AreDone}
 use Rattle.world.specs.Stopping.{AreActing}
@@ -25,11 +25,11 @@ returns-in-Err-clause-stopped g c = inl (c.in-Err.ensures.stopped, refl, refl)
 
 pub returns-clause-stopped : goal.returns-clause-stopped
 returns-clause-stopped g c =
-    on_err_weaker c.act_all.result
-    (λ a. inr (record {
+    IfErr-weaker c.act_all.result _ _
+    (λ e a. inr (record {
       seats = c.in-Ok.ensures.passed.0;
       wires = c.tick_all.new.wires;
       passes = c.in-Ok.ensures.passed.1;
-      acting = subst (λ l. AreActing c.args.plan.now l c.args.now c.args.schedule.now.items c.act_all.new.schedule.items
+      acting = subst (λ l. AreActing e c.args.plan.now l c.args.now c.args.schedule.now.items c.act_all.new.schedule.items
           (c.tick_all.new.wires, c.args.refused.now.items) (c.act_all.new.wires, c.act_all.new.refused.items)) c.as_slice.ensures.value a;
     })) c.act_all.ensures.stopped

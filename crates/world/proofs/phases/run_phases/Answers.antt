@@ -1,9 +1,8 @@
-use Rattle.std.proofs.Common.{Err, ap, arith, inl, inr, map, subst, sym}
-use Rattle.std.proofs.lemmas.Result.{on_ok_weaker}
+use Rattle.std.proofs.Common.{arith, inl, inr, map, subst, sym}
+use Rattle.std.proofs.lemmas.Result.{IfErr-weaker, on_ok_weaker}
 use Rattle.planned_stations.specs.Planning.{AreSeated, ports_of}
 use Rattle.world.proofs.Going.{did_end}
 use Rattle.world.proofs.Received.{received_goes}
-use Rattle.world.proofs.Stopped.{of_error}
 use Rattle.world.proofs.phases.run_phases.Goals as goal
 
 pub take_all-requires : goal.take_all-requires
@@ -41,15 +40,14 @@ returns-clause-plays g c =
     }) c.take_all.ensures.taken
 
 pub returns-in-Err-clause-stopped : goal.returns-in-Err-clause-stopped
-returns-in-Err-clause-stopped g c = inl (c.in-Err.ensures.stopped, λ same. c.in-Err.ensures.did.full (ap Err same))
+returns-in-Err-clause-stopped g c = inl c.in-Err.ensures.stopped
 
 pub returns-clause-stopped : goal.returns-clause-stopped
 returns-clause-stopped g c =
-    of_error c.take_all.result
-    (λ e taking full. inr (record {
+    IfErr-weaker c.take_all.result _ _
+    (λ e taking. inr (record {
       passed = c.before_takings.new.stations.items;
       acted = c.before_takings.new.wires;
       begins = c.in-Ok.ensures.begins;
       taking = taking;
-      full = full;
-    })) c.take_all.ensures.stopped c.take_all.ensures.did.full
+    })) c.take_all.ensures.stopped

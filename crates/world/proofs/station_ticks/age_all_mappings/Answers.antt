@@ -45,4 +45,5 @@ returns-in-Err-clause-stopped g c = record {
   ages = subst (λ m. AreAged c.args.seat c.loop-port.port c.args.station.now m c.args.wires.now c.loop-port.wires)
       (sym c.in-Err.ensures.stopped) c.loop-port.invariant.3;
   passes = c.in-Err.ensures.part;
+  full = c.in-Err.ensures.full;
 }

@@ -1,4 +1,4 @@
-use Rattle.std.proofs.Common.{◌≡◌, Err, sym, ap, arith, fold}
+use Rattle.std.proofs.Common.{◌≡◌, Err, inl, inr, sym, ap, arith, fold}
 use Rattle.at_base.specs.declared.error.Error.TheVariants.{Full}
 use Rattle.world.proofs.Going.{did_play}
 use Rattle.world.specs.Doing.{given_up}
@@ -23,3 +23,12 @@ returns-in-Err-clause-did g c =
     did_play 5 _ _ _ c.pass.ensures.plays tt
     (λ e. let same : c.in-Err.error ≡ Full = cc in let one = c.in-Err.ensures.full (ap Err same) in omega (arith, one))
     c.in-Err.ensures.refused
+
+pub returns-in-Err-clause-full : goal.returns-in-Err-clause-full
+returns-in-Err-clause-full g c = (
+  λ same. c.in-Err.ensures.full (ap Err same),
+  λ none. elim c.in-Err.ensures.refused [
+    | inl is ↦ is
+    | inr is ↦ absurd (c.in-Err.ensures.memory (ap Err is) none)
+  ],
+)

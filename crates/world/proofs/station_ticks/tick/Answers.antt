@@ -1,5 +1,5 @@
 use Rattle.std.proofs.Common.{List, ◌++◌, inr, ap, ◌∙◌, subst}
-use Rattle.std.proofs.lemmas.Result.{on_err_weaker, on_ok_weaker}
+use Rattle.std.proofs.lemmas.Result.{IfErr-weaker, on_ok_weaker}
 use Rattle.live_cables.specs.Living.{GivesInPart, Wires}
 use Rattle.station.specs.declared.output.Output.{Output}
 use Rattle.world.proofs.Going.{goes_on_settled, goes_plays, goes_plays_on, goes_settled}
@@ -20,11 +20,13 @@ returns-clause-stopped g c =
     let put = c.in-Ok-tick.ensures.ok in
     let set = c.settle.ensures.others ∙ ap (λ own. record c.args.wires.now { own = own }) c.settle.ensures.own in
     let all = put.grown ∙ ap (λ (os : List Output). os ++ put.added) c.in-Ok.ensures.ok in
-    on_err_weaker c.give.result
-    (λ part. inr (record {
+    IfErr-weaker c.give.result _ _
+    (λ e part. inr (record {
       outputs = put.added;
+      left = c.give.new.outputs.items;
       ticks = put.holds;
       gives =
-          subst (λ (w : Wires). GivesInPart c.args.number put.added w c.give.new.self) set
-          (subst (λ (os : List Output). GivesInPart c.args.number os c.settle.new.wires c.give.new.self) all part);
+          subst (λ (w : Wires). GivesInPart e c.args.number put.added c.give.new.outputs.items w c.give.new.self) set
+          (subst (λ (os : List Output). GivesInPart e c.args.number os c.give.new.outputs.items c.settle.new.wires c.give.new.self) all
+          part);
     })) c.give.ensures.part

@@ -1,4 +1,4 @@
-use Rattle.std.proofs.Common.{◌≡◌, ◌⊎◌, ◌<◌, IfErr, map, subst}
+use Rattle.std.proofs.Common.{◌≡◌, ◌⊎◌, ◌<◌, Err, IfErr, ap, map, subst}
 use Rattle.at_base.specs.declared.error.Error.TheVariants.{Full, Memory}
 use Rattle.live_cables.specs.Living.{happened}
 use Rattle.world.proofs.Going.{goes_none}
@@ -30,4 +30,4 @@ returns-in-Err-clause-stopped g c =
     first_stopped c.in-Some.stamp c.in-Some.station c.args.stations.now.items _ w _ c.in-Err.error c.in-Some.ensures.some
     (λ none. let full = c.in-Err.ensures.no_room
     (least_named w.cabling.seats (happened w) c.in-Some.stamp c.in-Some.station c.in-Some.ensures.some) none in cc)
-    c.in-Err.ensures.stopped
+    (λ is. c.in-Err.ensures.full (ap Err is)) c.in-Err.ensures.stopped

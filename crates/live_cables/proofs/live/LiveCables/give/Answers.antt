@@ -1,7 +1,7 @@
 use Rattle.std.proofs.Common.{inl, inr, refl, sym, ◌∙◌, length}
 use Rattle.std.proofs.lemmas.Bool.{eqb-true}
 use Rattle.std.proofs.lemmas.Result.{on_ok_weaker}
-use Rattle.live_cables.proofs.Calls.{midst_put, on_err, on_ok, plays_midst, plays_to, plays_done}
+use Rattle.live_cables.proofs.Calls.{if_refused, midst_put, on_ok, plays_midst, plays_to, plays_done}
 use Rattle.live_cables.proofs.Exact.{gives_out}
 use Rattle.live_cables.proofs.Idle.{done_none, gives_none, plays_none}
 use Rattle.live_cables.proofs.Parts.{sends_now}
@@ -77,31 +77,24 @@ returns-clause-given c =
 
 pub returns-in-Err-clause-part : goal.returns-in-Err-clause-part
 returns-in-Err-clause-part c =
-    let part = c.in-Err.ensures.part in
     rw (← c.self.view_is)
-    (inl (
-      part.0,
-      sends_now (wires c.self.inside.cables c.self.inside.near c.self.inside.losing.items)
-          (wires c.give_all.new.cables c.give_all.new.near c.self.inside.losing.items) c.args.station _ c.face.new.self
-          (c.give_all.new.cables, c.give_all.new.near)
-          (is_knowing c.self.inside.cables c.self.inside.near c.face.new.self c.self.inside.losing.items c.args.station
-          c.face.ensures c.self.invariant.0) part.1 refl refl
-          (stays_known c.self.inside.cables c.give_all.new.cables c.self.inside.near c.face.new.self c.give_all.new.near
-          c.self.inside.losing.items c.args.station c.face.ensures c.give_all.ensures.near),
-    ))
+    (inl (sends_now (wires c.self.inside.cables c.self.inside.near c.self.inside.losing.items)
+    (wires c.give_all.new.cables c.give_all.new.near c.self.inside.losing.items) c.args.station c.in-Err.error _ _ c.face.new.self
+    (c.give_all.new.cables, c.give_all.new.near)
+    (is_knowing c.self.inside.cables c.self.inside.near c.face.new.self c.self.inside.losing.items c.args.station c.face.ensures
+    c.self.invariant.0) c.in-Err.ensures.part refl refl
+    (stays_known c.self.inside.cables c.give_all.new.cables c.self.inside.near c.face.new.self c.give_all.new.near
+    c.self.inside.losing.items c.args.station c.face.ensures c.give_all.ensures.near)))
 
 pub returns-clause-part : goal.returns-clause-part
 returns-clause-part c =
     rw (← c.self.view_is)
-    (on_err c.lose_from.result _
-    (inr (gives_out (wires c.self.inside.cables c.self.inside.near c.self.inside.losing.items)
+    (if_refused c.lose_from.result _ c.lose_from.ensures.full c.lose_from.ensures.memory c.lose_from.ensures.refused
+    (λ e full. inr (gives_out (wires c.self.inside.cables c.self.inside.near c.self.inside.losing.items)
     (wires c.lose_from.new.cables c.give_all.new.near c.self.inside.losing.items) c.transcript-from.result.now c.deref.result.now
     (record { lines_are = c.transcript-from.ensures.value; losing_are = c.deref.ensures.value }) c.args.station _ c.face.new.self
     (c.give_all.new.cables, c.give_all.new.near)
     (is_knowing c.self.inside.cables c.self.inside.near c.face.new.self c.self.inside.losing.items c.args.station c.face.ensures
     c.self.invariant.0) c.in-Ok.ensures.given c.lose_from.ensures.loses refl
     (stays_known c.self.inside.cables c.lose_from.new.cables c.self.inside.near c.face.new.self c.give_all.new.near
-    c.self.inside.losing.items c.args.station c.face.ensures c.give_all.ensures.near))))
-
-pub returns-then-is_empty-clause-left : goal.returns-then-is_empty-clause-left
-returns-then-is_empty-clause-left c = (0, refl)
+    c.self.inside.losing.items c.args.station c.face.ensures c.give_all.ensures.near), c.in-Ok.ensures.emptied, full)))

@@ -3,7 +3,7 @@ use Rattle.std.specs.List.{list_any}
 use Rattle.std.proofs.lemmas.Result.{on_ok_weaker}
 use Rattle.cable_model.specs.Logs.{pending_on}
 use Rattle.cable_model.specs.Outcomes.{is_named}
-use Rattle.live_cables.proofs.Calls.{midst_taken, named_is, never_says, on_err, on_ok, plays_kept, plays_to, plays_done, taken_by}
+use Rattle.live_cables.proofs.Calls.{if_refused, midst_taken, named_is, never_says, on_ok, plays_kept, plays_to, plays_done, taken_by}
 use Rattle.live_cables.proofs.Exact.{takes_in}
 use Rattle.live_cables.proofs.Idle.{plays_none}
 use Rattle.live_cables.proofs.Knows.{knows_is}
@@ -99,8 +99,8 @@ returns-clause-stopped g c =
     && list_any (is_named c.args.stamp c.args.station) (pending_on w.cabling)) ≡ false) (sym c.self.view_is)
     (sym c.is_full_for.ensures ∙ c.if-is_full_for.false) in
     rw (← c.self.view_is)
-    (on_err c.lose_from.result _
-    (inr (takes_in (wires c.self.inside.cables c.self.inside.near c.self.inside.losing.items)
+    (if_refused c.lose_from.result _ c.lose_from.ensures.full c.lose_from.ensures.memory c.lose_from.ensures.refused
+    (λ e full. inr (takes_in (wires c.self.inside.cables c.self.inside.near c.self.inside.losing.items)
     (wires c.lose_from.new.cables c.take.new.near c.self.inside.losing.items) c.transcript-from.result.now c.deref.result.now
     (record { lines_are = c.transcript-from.ensures.value; losing_are = c.deref.ensures.value }) c.args.stamp c.args.station _ _
     c.face.new.self (c.take.new.cables, c.take.new.near)
@@ -109,7 +109,7 @@ returns-clause-stopped g c =
     (is_knowing c.self.inside.cables c.self.inside.near c.face.new.self c.self.inside.losing.items c.args.station c.face.ensures
     c.self.invariant.0) c.in-Ok.ensures.taken c.lose_from.ensures.loses refl
     (stays_taken c.args.stamp c.args.station _ _ c.self.inside.cables c.take.new.cables c.lose_from.new.cables c.self.inside.near
-    c.face.new.self c.take.new.near c.self.inside.losing.items c.args.station c.face.ensures c.in-Ok.ensures.taken))))
+    c.face.new.self c.take.new.near c.self.inside.losing.items c.args.station c.face.ensures c.in-Ok.ensures.taken), full)))
 
 pub returns-clause-not_pending : goal.returns-clause-not_pending
 returns-clause-not_pending g c =
