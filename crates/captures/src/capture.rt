@@ -1,6 +1,6 @@
 //! Captures, from their first byte to their last.
 
-ghost use Rattle.std.specs.Prelude.{◌≤◌, ◌<◌, ◌^◌, ◌++◌, OnOk, length, map};
+ghost use Rattle.std.specs.Prelude.{◌≡◌, ◌≤◌, ◌<◌, ◌^◌, ◌++◌, [], OnOk, length, map};
 ghost use Rattle.std.specs.Io.KnownBytes.{Appends};
 ghost use Rattle.cable_model.specs.Logs.{entry_at};
 ghost use Rattle.captures.specs.Packets.{play_capture, run_capture};
@@ -37,6 +37,7 @@ pub fn capture_play<S: Said, W: Write>(
         ++ play_capture cables.now seats.now counts.now
         (map (entry_at (S.kept said.now)) entries.now))) }
     ensures prints { Prints output.old.faults output.new.faults result }
+    ensures empty { OnOk result (output.new.text.items ≡ []) }
 {
     print_head(output, cables)?;
     print_ticks(output, said, seats, 1, counts, entries)?;
@@ -60,6 +61,7 @@ pub fn capture_run<S: Said, W: Write>(
         (W.contents output.new.writer) (output.old.text.items
         ++ run_capture cables.now seats.now (map (entry_at (S.kept said.now)) entries.now))) }
     ensures prints { Prints output.old.faults output.new.faults result }
+    ensures empty { OnOk result (output.new.text.items ≡ []) }
 {
     print_head(output, cables)?;
     print_tick(output, said, seats, 0, entries)?;

@@ -4,7 +4,7 @@ use Rattle.at_base.specs.declared.error.Error.{Error}
 use Rattle.at_base.specs.declared.error.Error.TheVariants.{Memory, WriteFault}
 
 -- Of a play, by the failed writes before and after the call: first the capture is written, then the lines, and then the
--- image. WriteFault comes of a failed write, and after Ok none failed. Where the capture can't be written, neither lines nor
+-- image. WriteFault comes of a failed write, and a failed write is reported; after Ok none failed. Where the capture can't be written, neither lines nor
 -- image are; where the lines can't, the image isn't. Nothing is written after a refusal, but perhaps a part of the capture
 -- where memory ran out.
 pub record PlayWrote {A : Type 0} (SameLines SameImage SameCapture : Type 0) (before after image_before image_after : ℕ)
@@ -17,6 +17,9 @@ pub record PlayWrote {A : Type 0} (SameLines SameImage SameCapture : Type 0) (be
   pub stays : OnOk result (after ≡ before)
   pub image_stays : OnOk result (image_after ≡ image_before)
   pub capture_stays : OnOk result (capture_after ≡ capture_before)
+  pub reported : after ≢ before → result ≡ Err WriteFault
+  pub image_reported : image_after ≢ image_before → result ≡ Err WriteFault
+  pub capture_reported : capture_after ≢ capture_before → result ≡ Err WriteFault
 
 -- Of a trace: first the lines are written, and then the capture. WriteFault comes of a failed write, and a failed write is
 -- reported. Nothing is written after a refusal, unless memory ran out.

@@ -52,7 +52,8 @@ pub record Wrote {A : Type 0} (before after : ℕ) (result : Result A Error) : T
   pub stays : OnOk result (after ≡ before)
   pub reported : after ≢ before → result ≡ Err WriteFault
 
--- The same of lines and of an image that is written after them: if that can't be written, the lines were.
+-- The same of lines and of an image that is written after them: if that can't be written, the lines were. A failed write of
+-- either is reported.
 pub record WroteImage {A : Type 0} (SameLines SameImage : Type 0) (before after image_before image_after : ℕ) (result : Result A Error)
     : Type 0 where
   pub write_fault : result ≡ Err WriteFault → (after ≢ before) ⊎ (image_after ≢ image_before)
@@ -60,6 +61,8 @@ pub record WroteImage {A : Type 0} (SameLines SameImage : Type 0) (before after 
   pub nothing_written : IfErr result (λ e. e ≢ WriteFault → SameLines × SameImage)
   pub stays : OnOk result (after ≡ before)
   pub image_stays : OnOk result (image_after ≡ image_before)
+  pub reported : after ≢ before → result ≡ Err WriteFault
+  pub image_reported : image_after ≢ image_before → result ≡ Err WriteFault
 
 -- The lines, and then the image, were to be written, and nothing else can fail.
 pub record Hands {A : Type 0} (SameImage Lines : Type 0) (before after image_before image_after : ℕ) (result : Result A Error)
@@ -69,6 +72,8 @@ pub record Hands {A : Type 0} (SameImage Lines : Type 0) (before after image_bef
   pub refused : IsOkUnless result WriteFault
   pub stays : OnOk result (after ≡ before)
   pub image_stays : OnOk result (image_after ≡ image_before)
+  pub reported : after ≢ before → result ≡ Err WriteFault
+  pub image_reported : image_after ≢ image_before → result ≡ Err WriteFault
   pub order : SameImage ⊎ Lines
 
 -- ---- Errors, whether or not the bytes of the inputs are known

@@ -50,6 +50,7 @@ pub fn audit_file<R: Read, W: Write>(
     // The image that was read is kept.
     ensures kept { OnOk result (IsSomeAnd input.new.image (λ i.
         IfSome (R.remaining input.old.reader) (λ bytes. Spells image_spelling bytes i))) }
+    ensures text { output.new.text ≡ output.old.text }
 {
     let image = read_from(alloc, input)?;
     let verdict = audit(&image);

@@ -1,6 +1,6 @@
 //! Plays and traces whose captures are written.
 
-ghost use Rattle.std.specs.Prelude.{◌≡◌, ◌≢◌, ◌⊎◌, ◌++◌, ℕ, List, OnOk};
+ghost use Rattle.std.specs.Prelude.{◌≡◌, ◌≢◌, ◌⊎◌, ◌++◌, [], ℕ, Bool, List, OnOk};
 ghost use Rattle.std.specs.Prelude.{Err, IfOk, IfErr, IfSome, IsSomeAnd, MatchResult};
 ghost use Rattle.std.specs.Io.KnownBytes.{Appends};
 ghost use Rattle.at_base.specs.Spelling.{Spells};
@@ -66,6 +66,8 @@ fn read_and_capture<R: Read, C: Write, P: Progress>(
     ensures kept { IfErr result (λ e. e ≢ Error.ReadFault → e ≢ Error.Memory
         → e ≢ Error.WriteFault → IsSomeAnd input.new.kept (λ v.
         IfSome (R.remaining input.old.reader) (λ text. v.items ≡ text))) }
+    ensures reported { capture.new.faults ≢ capture.old.faults → result ≡ Err Error.WriteFault }
+    ensures empty { OnOk result (capture.new.text.items ≡ []) }
 {
     let text = input.read_all(alloc)?;
     match play_and_capture(alloc, text.as_slice(), progress, version, capture) {
@@ -115,6 +117,12 @@ pub fn capture_play<R: Read, W: Write, I: Write, C: Write, P: Progress>(
     ensures wrote { PlayWrote (output.new ≡ output.old) (image.new ≡ image.old)
         (capture.new ≡ capture.old) output.old.faults output.new.faults image.old.faults
         image.new.faults capture.old.faults capture.new.faults result }
+    // The image isn't written before all lines of the play are.
+    ensures order { (image.new ≡ image.old)
+        ⊎ IfSome (R.remaining input.old.reader) (λ text.
+        (lines : List ℕ) × (yes : Bool) × (i : Internet) × IsPlay version text lines yes i
+        × Appends (W.contents output.old.writer) (W.contents output.new.writer)
+        (output.old.text.items ++ lines)) }
     // The bytes of the image that were written are kept; a text that was read to its end is kept if
     // its play has an error.
     ensures kept { MatchResult result
@@ -124,6 +132,8 @@ pub fn capture_play<R: Read, W: Write, I: Write, C: Write, P: Progress>(
         (λ e. e ≢ Error.ReadFault → e ≢ Error.Memory → e ≢ Error.WriteFault
         → IsSomeAnd input.new.kept (λ v.
         IfSome (R.remaining input.old.reader) (λ text. v.items ≡ text))) }
+    ensures empty { OnOk result ((output.new.text.items ≡ []) × (image.new.text.items ≡ [])
+        × (capture.new.text.items ≡ [])) }
 {
     match read_and_capture(alloc, input, capture, progress, version) {
         Ok(played) => hand_over(input, played, output, image),
@@ -180,6 +190,7 @@ pub fn capture_run<I: Read, S: Read, W: Write, C: Write>(
     ensures first { First (I.remaining image.old.reader) (script.new ≡ script.old)
         (IsSomeAnd image.new.image (λ i.
         IfSome (I.remaining image.old.reader) (λ bytes. Spells image_spelling bytes i))) result }
+    ensures empty { OnOk result ((output.new.text.items ≡ []) × (capture.new.text.items ≡ [])) }
 {
     let image = read_image(alloc, image)?;
     match read_steps(alloc, script) {

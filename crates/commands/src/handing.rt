@@ -47,6 +47,8 @@ pub(crate) fn keep_text<R>(input: &mut Input<R>, text: Vec<u8>)
     ensures ended { input.new.ended ≡ input.old.ended }
     ensures stays { input.new.faults ≡ input.old.faults }
     ensures reason_stays { input.new.fault ≡ input.old.fault }
+    ensures image { input.new.image ≡ input.old.image }
+    ensures flawed { input.new.flawed ≡ input.old.flawed }
 {
     input.kept = Some(text);
 }
@@ -65,6 +67,7 @@ fn write_played<W: Write, I: Write>(
         (Appends (W.contents output.old.writer) (W.contents output.new.writer)
         (output.old.text.items ++ played.now.lines.items))
         output.old.faults output.new.faults image.old.faults image.new.faults result }
+    ensures empty { OnOk result ((output.new.text.items ≡ []) × (image.new.text.items ≡ [])) }
 {
     match write_bytes(output, played.lines.as_slice()) {
         Ok(()) => write_bytes(image, played.image.as_slice()),
@@ -81,6 +84,8 @@ fn keep<R>(input: &mut Input<R>, played: Played) -> bool
     ensures ended { input.new.ended ≡ input.old.ended }
     ensures stays { input.new.faults ≡ input.old.faults }
     ensures reason_stays { input.new.fault ≡ input.old.fault }
+    ensures image { input.new.image ≡ input.old.image }
+    ensures flawed { input.new.flawed ≡ input.old.flawed }
 {
     let Played { yes, image, .. } = played;
     input.kept = Some(image);
@@ -114,6 +119,7 @@ pub(crate) fn hand_over<R, W: Write, I: Write>(
         Appends (I.contents image.old.writer) (I.contents image.new.writer)
         (image.old.text.items ++ bytes.items))) }
     ensures input_stays { OnErr result (input.new ≡ input.old) }
+    ensures empty { OnOk result ((output.new.text.items ≡ []) × (image.new.text.items ≡ [])) }
 {
     match write_played(&played, output, image) {
         Ok(()) => Ok(keep(input, played)),

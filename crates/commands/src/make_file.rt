@@ -1,7 +1,7 @@
 //! Makes the image that a tables file says, and writes the verdict on it and its bytes.
 
 ghost use Rattle.std.specs.Prelude.{◌≡◌, ◌≢◌, ◌⊎◌, ◌++◌, ℕ, Bool, List};
-ghost use Rattle.std.specs.Prelude.{IfOk, IfErr, IfSome, IsSomeAnd, MatchResult};
+ghost use Rattle.std.specs.Prelude.{[], IfOk, IfErr, IfSome, IsSomeAnd, MatchResult, OnOk};
 ghost use Rattle.std.specs.Io.KnownBytes.{Appends};
 ghost use Rattle.at_base.specs.Spelling.{Spells};
 ghost use Rattle.table_image.specs.Internet.{Internet};
@@ -101,6 +101,7 @@ pub fn make_bytes<R: Read, W: Write, I: Write>(
         (λ e. e ≢ Error.ReadFault → e ≢ Error.Memory → e ≢ Error.WriteFault
         → IsSomeAnd input.new.kept (λ v.
         IfSome (R.remaining input.old.reader) (λ text. v.items ≡ text))) }
+    ensures empty { OnOk result ((output.new.text.items ≡ []) × (image.new.text.items ≡ [])) }
 {
     match read_and_make(alloc, input) {
         Ok(made) => hand_over(input, made, output, image),

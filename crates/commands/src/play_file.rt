@@ -1,7 +1,7 @@
 //! Plays an internet file, and writes its lines and its image.
 
 ghost use Rattle.std.specs.Prelude.{◌≡◌, ◌≢◌, ◌⊎◌, ◌++◌, ℕ, Bool, List};
-ghost use Rattle.std.specs.Prelude.{Err, IfOk, IfErr, IfSome, IsSomeAnd, MatchResult};
+ghost use Rattle.std.specs.Prelude.{[], Err, IfOk, IfErr, IfSome, IsSomeAnd, MatchResult, OnOk};
 ghost use Rattle.std.specs.Io.KnownBytes.{Appends};
 ghost use Rattle.at_base.specs.Spelling.{Spells};
 ghost use Rattle.internet_file.specs.Files.{IsFile, IsFileRefused, Planned};
@@ -110,6 +110,7 @@ pub fn play_bytes<R: Read, W: Write, I: Write, P: Progress>(
         (λ e. e ≢ Error.ReadFault → e ≢ Error.Memory → e ≢ Error.WriteFault
         → IsSomeAnd input.new.kept (λ v.
         IfSome (R.remaining input.old.reader) (λ text. v.items ≡ text))) }
+    ensures empty { OnOk result ((output.new.text.items ≡ []) × (image.new.text.items ≡ [])) }
 {
     match read_and_play(alloc, input, progress, version) {
         Ok(played) => hand_over(input, played, output, image),

@@ -1,6 +1,6 @@
 //! Shows and draws the tables of the image in an input.
 
-ghost use Rattle.std.specs.Prelude.{◌≡◌, ◌≢◌, ◌⊎◌, ◌++◌, Err, IfErr, IfSome, OnOk};
+ghost use Rattle.std.specs.Prelude.{◌≡◌, ◌≢◌, ◌⊎◌, ◌++◌, [], Err, IfErr, IfSome, OnOk};
 ghost use Rattle.std.specs.Io.KnownBytes.{Appends};
 ghost use Rattle.at_base.specs.Spelling.{Spells};
 ghost use Rattle.audit.specs.Verdicts.{Judges};
@@ -30,6 +30,7 @@ fn print_image<W: Write>(image: &Image, output: &mut Output<W>) -> Result<(), Er
     ensures printed { OnOk result (Appends (W.contents output.old.writer)
         (W.contents output.new.writer) (output.old.text.items ++ tables_text image.now)) }
     ensures prints { Prints output.old.faults output.new.faults result }
+    ensures empty { OnOk result (output.new.text.items ≡ []) }
 {
     print_tables(output, image)?;
     output.flush()
@@ -61,6 +62,7 @@ pub fn show_image<R: Read, W: Write>(
     // After an error other than `WriteFault` and `Memory`, nothing was written.
     ensures nothing_written { IfErr result (λ e. e ≢ Error.WriteFault → e ≢ Error.Memory
         → output.new ≡ output.old) }
+    ensures empty { OnOk result (output.new.text.items ≡ []) }
 {
     let image = read_from(alloc, input)?;
     print_image(&image, output)
@@ -77,6 +79,7 @@ fn print_drawn<W: Write>(
         × Appends (W.contents output.old.writer) (W.contents output.new.writer)
         (output.old.text.items ++ drawing_text image.now v to)) }
     ensures prints { Prints output.old.faults output.new.faults result }
+    ensures empty { OnOk result (output.new.text.items ≡ []) }
 {
     let verdict = audit(image);
     print_drawing(output, image, &verdict, to)?;
@@ -111,6 +114,7 @@ pub fn draw_image<R: Read, W: Write>(
     // After an error other than `WriteFault` and `Memory`, nothing was written.
     ensures nothing_written { IfErr result (λ e. e ≢ Error.WriteFault → e ≢ Error.Memory
         → output.new ≡ output.old) }
+    ensures empty { OnOk result (output.new.text.items ≡ []) }
 {
     let image = read_from(alloc, input)?;
     print_drawn(&image, to, output)

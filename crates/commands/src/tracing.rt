@@ -1,7 +1,7 @@
 //! Runs a script over an image, and writes the trace.
 
 ghost use Rattle.std.specs.Prelude.{◌≡◌, ◌≢◌, ◌⊎◌, ◌++◌, ℕ, List};
-ghost use Rattle.std.specs.Prelude.{IfOk, IfErr, IfSome, IsSomeAnd};
+ghost use Rattle.std.specs.Prelude.{[], IfOk, IfErr, IfSome, IsSomeAnd, OnOk};
 ghost use Rattle.std.specs.Io.KnownBytes.{Appends};
 ghost use Rattle.at_base.specs.Spelling.{Spells};
 ghost use Rattle.frozen_trace.specs.Traces.{IsPrinted};
@@ -65,6 +65,7 @@ pub fn run_frozen<I: Read, S: Read, W: Write>(
     ensures first { First (I.remaining image.old.reader) (script.new ≡ script.old)
         (IsSomeAnd image.new.image (λ i.
         IfSome (I.remaining image.old.reader) (λ bytes. Spells image_spelling bytes i))) result }
+    ensures empty { OnOk result (output.new.text.items ≡ []) }
 {
     let image = read_image(alloc, image)?;
     match read_steps(alloc, script) {

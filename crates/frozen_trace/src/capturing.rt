@@ -63,6 +63,7 @@ fn capture_traced<T: RouteTable, C: Write>(
         (C.contents capture.new.writer) (capture.old.text.items
         ++ run_capture scenery.now.cables.items scenery.now.seats (transcript (cabling run.now)))) }
     ensures prints { Prints capture.old.faults capture.new.faults result }
+    ensures empty { OnOk result (capture.new.text.items ≡ []) }
 {
     let cables = scenery.cables.as_slice();
     let said = RunBytes { run };
@@ -76,6 +77,7 @@ fn capture_nothing<C: Write>(scenery: &Scenery, capture: &mut Output<C>) -> Resu
         (C.contents capture.new.writer) (capture.old.text.items
         ++ run_capture scenery.now.cables.items scenery.now.seats [])) }
     ensures prints { Prints capture.old.faults capture.new.faults result }
+    ensures empty { OnOk result (capture.new.text.items ≡ []) }
 {
     let cables = scenery.cables.as_slice();
     capture_run(capture, cables, &scenery.seats, &Nothing, &[])
@@ -106,6 +108,7 @@ fn trace_and_take<T: RouteTable, W: Write, C: Write>(
         × ((played : List ℕ) × PlaysAll run.old steps.now played run.new
         × Appends (W.contents output.old.writer) (W.contents output.new.writer)
         (output.old.text.items ++ played ++ pending_line run.new))) }
+    ensures empty { OnOk result ((output.new.text.items ≡ []) × (capture.new.text.items ≡ [])) }
 {
     match trace_run(alloc, run, steps, lines, output) {
         Ok(()) => capture_traced(run, scenery, capture),
@@ -133,6 +136,7 @@ fn tell_no<W: Write, C: Write>(
     ensures first { (capture.new ≡ capture.old) ⊎ Appends (W.contents output.old.writer)
         (W.contents output.new.writer)
         (output.old.text.items ++ (verdict_line (VerdictValue.No fault) ++ 10 ∷ [])) }
+    ensures empty { OnOk result ((output.new.text.items ≡ []) × (capture.new.text.items ≡ [])) }
 {
     match print_no(alloc, fault, output) {
         Ok(()) => capture_nothing(scenery, capture),
@@ -166,6 +170,7 @@ fn capture_image<T: RouteTable, W: Write, C: Write>(
         capture.old.faults capture.new.faults result }
     ensures first { (capture.new ≡ capture.old) ⊎ IsTraced image steps.now
         (W.contents output.old.writer) output.old.text.items (W.contents output.new.writer) }
+    ensures empty { OnOk result ((output.new.text.items ≡ []) × (capture.new.text.items ≡ [])) }
 {
     match Frozen::<T>::start(alloc, image, LIMIT) {
         Ok(run) => {
@@ -204,6 +209,7 @@ pub fn trace_and_capture<T: RouteTable, W: Write, C: Write>(
         capture.old.faults capture.new.faults result }
     ensures first { (capture.new ≡ capture.old) ⊎ IsTraced image steps.now
         (W.contents output.old.writer) output.old.text.items (W.contents output.new.writer) }
+    ensures empty { OnOk result ((output.new.text.items ≡ []) × (capture.new.text.items ≡ [])) }
 {
     let mut lines = Lines::new(alloc, &image)?;
     let scenery = Scenery::of(alloc, &image)?;

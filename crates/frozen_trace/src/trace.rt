@@ -42,6 +42,7 @@ pub fn trace_script<T: RouteTable, W: Write>(
         × Appends (W.contents output.old.writer) (W.contents output.new.writer)
         (output.old.text.items ++ text)) }
     ensures prints { Prints output.old.faults output.new.faults result }
+    ensures empty { OnOk result (output.new.text.items ≡ []) }
 {
     let mut lines = Lines::new(alloc, &image)?;
     trace_image::<T, W>(alloc, image, steps, &mut lines, output)
@@ -61,6 +62,7 @@ fn trace_image<T: RouteTable, W: Write>(
         × Appends (W.contents output.old.writer) (W.contents output.new.writer)
         (output.old.text.items ++ text)) }
     ensures prints { Prints output.old.faults output.new.faults result }
+    ensures empty { OnOk result (output.new.text.items ≡ []) }
 {
     match Frozen::<T>::start(alloc, image, LIMIT) {
         Ok(run) => {
@@ -86,6 +88,7 @@ pub(crate) fn print_no<W: Write>(
         (W.contents output.new.writer)
         (output.old.text.items ++ (verdict_line (VerdictValue.No fault) ++ 10 ∷ []))) }
     ensures prints { Prints output.old.faults output.new.faults result }
+    ensures empty { OnOk result (output.new.text.items ≡ []) }
 {
     let line = Verdict::No(fault).line(alloc)?;
     output.flush()?;
@@ -106,6 +109,7 @@ pub(crate) fn trace_run<T: RouteTable, W: Write>(
         (output.old.text.items ++ played ++ pending_line run.new)) }
     ensures frozen { OnOk result (IsFrozen run.old × IsFrozen run.new) }
     ensures prints { Prints output.old.faults output.new.faults result }
+    ensures empty { OnOk result (output.new.text.items ≡ []) }
 {
     // Only the prover needs these reads: the run is over frozen tables, before and after.
     let _begun = run.image();

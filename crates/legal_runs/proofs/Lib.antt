@@ -32,6 +32,7 @@ pub mod Alone
 pub mod Apart
 pub mod BlueNames
 pub mod LossyLaws
+pub mod Excluded
 pub mod Refused
 pub mod LossExamples
 pub mod RefusedLosses

@@ -125,3 +125,27 @@ pub fn words_exclude()
     ensures not_looked { ¬ IsLegal three_cables looked_nowhere }
     ensures asked { ¬ IsLegal three_cables asked_alone }
 {}
+
+/// The laws themselves exclude what `words_exclude` names: each breaks the law that its part is
+/// about, whether or not it is legal.
+pub fn laws_exclude()
+    ensures counted { (¬ IsConserved three_cables reached_alone)
+        × (¬ IsConserved three_cables taken_twice)
+        × (¬ IsConserved three_cables passed_from_all) }
+    ensures elsewhere { ¬ IsConserved three_cables reached_elsewhere }
+    ensures kept { ¬ IsConserved three_cables dropped_too }
+    ensures unlisted { (¬ IsConserved three_cables gone)
+        × (¬ IsConserved three_cables reached_unlisted)
+        × (¬ IsConserved three_cables out_of_hops) }
+    ensures unlisted_twice { (¬ IsConserved three_cables dropped_twice)
+        × (¬ IsConserved three_cables dropped_on_its_way) }
+    ensures hops { ¬ HasHopsLeft three_cables many_hops }
+    ensures carried { (¬ AreCarried three_cables none_yet reached_from_afar)
+        × (¬ AreCarried three_cables none_yet put_from_afar)
+        × (¬ AreCarried three_cables none_yet same_hops) }
+    ensures taken { ¬ AreTakenThere three_cables [] taken_from_afar }
+    ensures handed { ¬ AreByHand three_cables false passed_back }
+    ensures asked { ¬ IsLookedUp three_cables asked_alone (key_in (request blue_request)) }
+    ensures looked { (¬ IsLookedUp three_cables looked_elsewhere (key_in (request blue_request)))
+        × (¬ IsLookedUp three_cables looked_nowhere (key_in (request blue_request))) }
+{}

@@ -129,3 +129,22 @@ pub fn words_exclude_with_losses()
     ensures not_looked { ¬ IsLegalWithLosses three_cables looked_nowhere }
     ensures asked { ¬ IsLegalWithLosses three_cables asked_alone }
 {}
+
+/// The laws with losses themselves exclude what `words_exclude` names of counts and lookups.
+pub fn laws_exclude_with_losses()
+    ensures counted { (¬ IsConservedWithLosses three_cables reached_alone)
+        × (¬ IsConservedWithLosses three_cables taken_twice)
+        × (¬ IsConservedWithLosses three_cables passed_from_all) }
+    ensures elsewhere { ¬ IsConservedWithLosses three_cables reached_elsewhere }
+    ensures kept { ¬ IsConservedWithLosses three_cables dropped_too }
+    ensures unlisted { (¬ IsConservedWithLosses three_cables gone)
+        × (¬ IsConservedWithLosses three_cables reached_unlisted)
+        × (¬ IsConservedWithLosses three_cables out_of_hops) }
+    ensures unlisted_twice { (¬ IsConservedWithLosses three_cables dropped_twice)
+        × (¬ IsConservedWithLosses three_cables dropped_on_its_way) }
+    ensures asked { ¬ IsLookedUpWithLosses three_cables asked_alone
+        (key_in (request blue_request)) }
+    ensures looked { (¬ IsLookedUpWithLosses three_cables looked_elsewhere
+        (key_in (request blue_request)))
+        × (¬ IsLookedUpWithLosses three_cables looked_nowhere (key_in (request blue_request))) }
+{}

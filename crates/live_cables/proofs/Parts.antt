@@ -1,5 +1,5 @@
 -- Calls that were refused before they were done.
-use Rattle.std.proofs.Common.{◌≡◌, ◌↔◌, ℕ, zero, suc, ◌≤◌, ◌-◌, List, [], ◌∷◌, Option, Err, refl, ap, ◌∙◌, subst, arith, drop, length, slice_get, take}
+use Rattle.std.proofs.Common.{◌≡◌, ◌↔◌, ℕ, zero, suc, ◌≤◌, ◌-◌, List, [], ◌∷◌, Option, Result, Err, refl, ap, ◌∙◌, subst, arith, drop, length, slice_get, take}
 use Rattle.std.specs.Prelude.{slice_index_or}
 use Rattle.std.proofs.Math.Seq.{take-length}
 use Rattle.at_base.specs.declared.address.Addr.{Addr}
@@ -16,7 +16,7 @@ use Rattle.station.specs.declared.output.Output.{Output}
 -- The first output was refused, and nothing changed.
 pub refused_first : (station : ℕ) (o : Output) (os all : List Output) (old new : Cabling × Knowing) (e : Error) → all ≡ o ∷ os
     → (new.0 ≡ old.0) × (new.1 ≡ old.1) → (room_of old.1.seats station o ≡ 0 → ⊥)
-    → ((Err {Unit {0}} e ≡ Err Full) ↔ ((1 ≤ room_of old.1.seats station o) × HasNoRoom (room_of old.1.seats station o) old.0))
+    → (◌≡◌ {A = Result (Unit {0}) Error} (Err e) (Err Full) ↔ ((1 ≤ room_of old.1.seats station o) × HasNoRoom (room_of old.1.seats station o) old.0))
     → AreGivenUpTo e station all os old new
 refused_first station o os all old new e is same some full =
     let needs : 1 ≤ room_of old.1.seats station o = some_is _ some in

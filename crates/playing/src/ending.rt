@@ -1,7 +1,7 @@
 //! The end of a play: its lines before the verdict, its image, and its capture.
 
-ghost use Rattle.std.specs.Prelude.{◌≡◌, ◌≢◌, ◌⊎◌, ◌<◌, ◌≤◌, ◌^◌, ◌++◌, Some, IfErr, IfOk};
-ghost use Rattle.std.specs.Prelude.{IsOkUnless, OnOk, length, map, true};
+ghost use Rattle.std.specs.Prelude.{◌≡◌, ◌≢◌, ◌⊎◌, ◌↔◌, ◌<◌, ◌≤◌, ◌^◌, ◌++◌, Some, IfErr, IfOk};
+ghost use Rattle.std.specs.Prelude.{[], IsOkUnless, OnOk, length, map, true};
 ghost use Rattle.std.specs.Io.KnownBytes.{Appends};
 ghost use Rattle.playing.specs.Captured as captured_spec;
 ghost use Rattle.playing.specs.Captured.{history_capture};
@@ -53,7 +53,7 @@ impl Said for WorldBytes<'_> {
 fn freeze(world: &World<Routes>, version: Option<Version>) -> Result<Image, Error>
     ensures frozen { IfOk result (λ image. image ≡ frozen_for version world.now) }
     ensures full { (result ≡ Err Error.Full)
-        → ((version ≡ Some Version.V1) × (needs_version_2 world.now ≡ true)) }
+        ↔ ((version ≡ Some Version.V1) × (needs_version_2 world.now ≡ true)) }
     ensures refused { IfErr result (λ e. (e ≡ Error.Full) ⊎ (e ≡ Error.Memory)) }
 {
     match version {
@@ -68,7 +68,7 @@ fn see(alloc: Global, world: &World<Routes>, version: Option<Version>) -> Result
         ++ all_received world.now 1 (length world.now.plan.nodes)) }
     ensures frozen { IfOk result (λ e. e.image ≡ frozen_for version world.now) }
     ensures full { (result ≡ Err Error.Full)
-        → ((version ≡ Some Version.V1) × (needs_version_2 world.now ≡ true)) }
+        ↔ ((version ≡ Some Version.V1) × (needs_version_2 world.now ≡ true)) }
     ensures refused { IfErr result (λ e. (e ≡ Error.Full) ⊎ (e ≡ Error.Memory)) }
 {
     let image = match freeze(world, version) {
@@ -89,7 +89,7 @@ pub(crate) fn end(alloc: Global, lived: Lived, version: Option<Version>) -> Resu
         ++ all_received lived.world 1 (length lived.world.plan.nodes)) }
     ensures frozen { IfOk result (λ e. e.image ≡ frozen_for version lived.world) }
     ensures full { (result ≡ Err Error.Full)
-        → ((version ≡ Some Version.V1) × (needs_version_2 lived.world ≡ true)) }
+        ↔ ((version ≡ Some Version.V1) × (needs_version_2 lived.world ≡ true)) }
     ensures refused { IfErr result (λ e. (e ≡ Error.Full) ⊎ (e ≡ Error.Memory)) }
 {
     see(alloc, &lived.world, version)
@@ -169,12 +169,13 @@ pub(crate) fn end_captured<C: Write>(
         (C.contents capture.new.writer) (capture.old.text.items
         ++ history_capture lived.world lived.counts.items)) }
     ensures full { (result ≡ Err Error.Full)
-        → ((version ≡ Some Version.V1) × (needs_version_2 lived.world ≡ true)) }
+        ↔ ((version ≡ Some Version.V1) × (needs_version_2 lived.world ≡ true)) }
     ensures refused { IfErr result (λ e. (e ≡ Error.Full) ⊎ (e ≡ Error.Memory)
         ⊎ ((e ≡ Error.WriteFault) × (capture.new.faults ≢ capture.old.faults))) }
     ensures stays { OnOk result (capture.new.faults ≡ capture.old.faults) }
     ensures reported { capture.new.faults ≢ capture.old.faults → result ≡ Err Error.WriteFault }
     ensures nothing_written { (result ≡ Err Error.Full) → capture.new ≡ capture.old }
+    ensures empty { OnOk result (capture.new.text.items ≡ []) }
 {
     // Only the prover needs this call: the number of ticks fits a `u32`.
     let _ticks = lived.world.plan().ticks();

@@ -1,6 +1,6 @@
 //! A play, from the text of its file to its end.
 
-ghost use Rattle.std.specs.Prelude.{◌≡◌, ◌≢◌, ◌⊎◌, ◌++◌, None, IfErr, IfOk, OnOk};
+ghost use Rattle.std.specs.Prelude.{◌≡◌, ◌≢◌, ◌⊎◌, ◌++◌, [], None, IfErr, IfOk, OnOk};
 ghost use Rattle.std.specs.Io.KnownBytes.{Appends};
 ghost use Rattle.at_base.specs.Spelling.{Spells};
 ghost use Rattle.internet_file.specs.Files.{IsFile, IsFileRefused, Planned};
@@ -124,6 +124,7 @@ pub fn play_and_capture<P: Progress, C: Write>(
     ensures reported { capture.new.faults ≢ capture.old.faults → result ≡ Err Error.WriteFault }
     ensures nothing_written { IfErr result (λ e. e ≢ Error.WriteFault → e ≢ Error.Memory
         → capture.new ≡ capture.old) }
+    ensures empty { OnOk result (capture.new.text.items ≡ []) }
 {
     let lived = match live(alloc, text, progress) {
         Ok(lived) => lived,

@@ -22,8 +22,10 @@ use Rattle.legal_runs.specs.Requests.{request, zone_of}
 use Rattle.legal_runs.specs.Stations.{cable_seats}
 use Rattle.legal_runs.proofs.ByHand.{frame, not_zero, pair}
 use Rattle.resolved_runs.specs.AskedFor.{AreAskedFor, AreHeard, AreHeardOrOnTheirWay, AreHeldOnce, Answered, Asks, Requested}
-use Rattle.resolved_runs.specs.Example.{asking, packet_bytes, telling, unmapped}
-use Rattle.resolved_runs.specs.Excluded.{another_told, asked_by_another, asked_for_another, asked_from_afar, asked_in_a_datagram}
+use Rattle.resolved_runs.specs.Example.{asking, full_ring, packet_bytes, telling, unmapped}
+use Rattle.resolved_runs.specs.Excluded.{another_told, asked_by_another, asked_elsewhere, asked_for_another, asked_from_afar}
+use Rattle.resolved_runs.specs.Excluded.{asked_in_a_datagram, told_by_another}
+use Rattle.resolved_runs.specs.Lossless.{IsNothingGivenUp}
 use Rattle.resolved_runs.specs.Excluded.{blue_key, forward_held_and_put, forward_held_elsewhere, given_up_and_held}
 use Rattle.resolved_runs.specs.Excluded.{given_up_and_reached, heard_and_held, heard_by_all, held_and_dropped, held_and_elsewhere, held_twice}
 use Rattle.resolved_runs.specs.Excluded.{held_and_put, held_back, held_with_hops, not_forwarded, one_held, one_stamp, own_held}
@@ -249,6 +251,47 @@ not_another_told = never_asked another_told tells_other (0, omega arith, refl) r
     never kind (Requested sent read is target from to) = differs (sym (ap (λ p. p.function) (some_same told sent read) ∙ is))
     never kind (Answered sent read is source from to) =
         other_node (ap (λ a. a.node) (ap (λ p. p.source) (some_same told sent read) ∙ source))
+
+abbrev tells_instead : Pair
+tells_instead = heard (frame_in (telling 1 0 1 1 10 1 5 7)) node_seat
+
+abbrev told_rightly : Packet
+told_rightly = record {
+  function = Response;
+  source = addr 10 1;
+  source_hw = hardware 1;
+  target = addr 10 7;
+  target_hw = hardware 5;
+}
+
+pub not_told_by_another : AreAskedFor unmapped told_by_another → ⊥
+unfolding request datagram packet_at aarp_packet address
+not_told_by_another = never_asked told_by_another tells_instead (0, omega arith, refl) refl never
+  where
+    never : tells_instead.frame.kind ≡ Aarp → Asks waits router_seat tells_instead → ⊥
+    never kind (Requested sent read is target from to) = differs (sym (ap (λ p. p.function) (some_same told_rightly sent read) ∙ is))
+    never kind (Answered sent read is source from to) = one_zero from
+
+-- A pair of two is on the cable on which both are.
+one_of_two : (x y p : Pair) → Contains (x ∷ y ∷ []) p → x.frame.cable ≡ 0 → y.frame.cable ≡ 0 → p.frame.cable ≡ 0
+one_of_two x y p (zero, below, at) first second = subst (λ q. q.frame.cable ≡ 0) at first
+one_of_two x y p (suc zero, below, at) first second = subst (λ q. q.frame.cable ≡ 0) at second
+one_of_two x y p (suc (suc k), below, at) first second = absurd (omega (arith, below))
+
+-- What the second router holds, and the seat that it is for.
+abbrev between : Holding
+between = record { stamp = 0; cable = 1; station = 1; next = addr 20 1; bytes = plain_to 0 20 1 }
+
+abbrev far_seat : Seat
+far_seat = record { station = 0; cable = 1; address = addr 20 1; hardware = hardware 2 }
+
+pub not_elsewhere : AreAskedFor unmapped asked_elsewhere → ⊥
+not_elsewhere law =
+    let a = law between far_seat (0, omega arith, refl) refl in
+    zero_one (sym (one_of_two _ _ a.pair a.there refl refl) ∙ a.cable)
+
+pub not_nothing : IsNothingGivenUp unmapped full_ring → ⊥
+not_nothing law = one_zero (law.copies (echo_request 0))
 
 pub not_once : AreHeldOnce one_stamp → ⊥
 not_once law = two_at_most (law 0)

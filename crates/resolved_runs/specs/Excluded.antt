@@ -147,6 +147,14 @@ asked_in_a_datagram = one_held ++ framed 1 0 2 1 (packet_bytes 1 5 10 7 (0 ∷ 0
 abbrev pub another_told : List Entry
 another_told = one_held ++ telling 1 0 0 1 10 9 5 7 ∷ []
 
+-- The response for which the holder waits is the second router's, which has another address.
+abbrev pub told_by_another : List Entry
+told_by_another = one_held ++ telling 1 0 1 1 10 1 5 7 ∷ []
+
+-- The second router holds a datagram for the first one on the cable between them, and its request is on the first cable.
+abbrev pub asked_elsewhere : List Entry
+asked_elsewhere = Sent 1 (plain 0 20 1) ∷ held 0 1 1 20 1 (plain 0 20 1) ∷ asking 1 0 1 3 20 2 1 ∷ []
+
 -- ---- Heard
 
 -- The node sends a datagram to its router's address, and holds it.

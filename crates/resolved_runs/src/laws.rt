@@ -22,8 +22,9 @@ ghost use Rattle.resolved_runs.specs.AskedFor.{AreHeldOnce};
 ghost use Rattle.resolved_runs.specs.Example as example;
 ghost use Rattle.resolved_runs.specs.Example.{echo_again, full_ring, plain_echo, resolved_echo};
 ghost use Rattle.resolved_runs.specs.Example.{resolved_to_nobody, ring_released, unmapped};
-ghost use Rattle.resolved_runs.specs.Excluded.{another_told, asked_by_another, asked_for_another};
-ghost use Rattle.resolved_runs.specs.Excluded.{asked_from_afar, asked_in_a_datagram, blue_key};
+ghost use Rattle.resolved_runs.specs.Excluded.{another_told, asked_by_another, asked_elsewhere};
+ghost use Rattle.resolved_runs.specs.Excluded.{asked_for_another, asked_from_afar};
+ghost use Rattle.resolved_runs.specs.Excluded.{asked_in_a_datagram, blue_key, told_by_another};
 ghost use Rattle.resolved_runs.specs.Excluded.{forward_held_and_put, forward_held_elsewhere};
 ghost use Rattle.resolved_runs.specs.Excluded.{given_up_and_held, given_up_and_reached};
 ghost use Rattle.resolved_runs.specs.Excluded.{heard_and_held, heard_by_all, held_and_dropped};
@@ -224,8 +225,9 @@ pub fn they_are_legal_without_mistakes()
 /// cable that doesn't list the zone; two datagrams held with one stamp, one held twice, and one
 /// released twice; one that is held and isn't
 /// asked for, but another address is, or another station asks, or the request is a datagram, or the
-/// answer tells another address; one that was heard and is held, one heard in a frame to all, and
-/// one held where no frame is pending.
+/// answer tells another address, or is another station's, or the request is on another cable; one
+/// given up of seventeen; one that was heard and is held, one heard in a frame to all, and one held
+/// where no frame is pending.
 pub fn laws_exclude_with_resolution()
     ensures counted { (¬ IsConservedResolved unmapped vanished)
         × (¬ IsConservedResolved unmapped held_and_put)
@@ -251,7 +253,9 @@ pub fn laws_exclude_with_resolution()
     ensures put_once { ¬ ArePutOnce released_twice }
     ensures asked { (¬ AreAskedFor unmapped one_held) × (¬ AreAskedFor unmapped asked_for_another)
         × (¬ AreAskedFor unmapped asked_by_another) × (¬ AreAskedFor unmapped asked_in_a_datagram)
-        × (¬ AreAskedFor unmapped another_told) }
+        × (¬ AreAskedFor unmapped another_told) × (¬ AreAskedFor unmapped told_by_another)
+        × (¬ AreAskedFor unmapped asked_elsewhere) }
+    ensures given_up { ¬ IsNothingGivenUp unmapped full_ring }
     ensures heard { (¬ AreHeardOrOnTheirWay unmapped heard_and_held)
         × (¬ AreHeardOrOnTheirWay unmapped heard_by_all) }
     ensures at_rest { ¬ AreHeard unmapped own_held }

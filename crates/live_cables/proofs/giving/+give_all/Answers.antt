@@ -13,7 +13,7 @@ returns-in-Err-clause-part t c = refused_first c.args.station c.in-Some.output c
 
 pub returns-clause-part : goal.returns-clause-part
 returns-clause-part t c =
-    IfErr-weaker c.give_all.result
+    IfErr-weaker c.give_all.result _ _
     (λ e rest. given_more c.args.station c.in-Some.output c.args.outputs.now.items e c.pop.new.self.items _ _
     (c.give.new.cables, c.give.new.near) _ c.in-Some.ensures.some c.in-Ok.ensures.given rest)
     c.give_all.ensures.part

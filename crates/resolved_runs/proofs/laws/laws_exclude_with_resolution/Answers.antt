@@ -5,7 +5,8 @@ use Rattle.resolved_runs.proofs.Excluded.{not_given_up_and_reached, not_heard_an
 use Rattle.resolved_runs.proofs.Excluded.{not_held_and_elsewhere, not_held_and_put, not_held_back, not_held_with_hops}
 use Rattle.resolved_runs.proofs.Excluded.{not_in_a_datagram, not_many_hops, not_once, not_out_of_hops, not_released_from_afar}
 use Rattle.resolved_runs.proofs.Excluded.{not_released_twice, not_released_with_hops, not_request_held_and_put, not_taken_from_afar, not_twice}
-use Rattle.resolved_runs.proofs.Excluded.{not_unlisted_and_dropped, not_unlisted_and_reached, not_vanished}
+use Rattle.resolved_runs.proofs.Excluded.{not_elsewhere, not_nothing, not_told_by_another, not_unlisted_and_dropped}
+use Rattle.resolved_runs.proofs.Excluded.{not_unlisted_and_reached, not_vanished}
 
 pub returns : goal.returns
 returns c = record {
@@ -21,7 +22,8 @@ returns c = record {
   looked = (never_forwarded, not_forward_held_and_put, not_forward_held_elsewhere);
   once = (not_once, not_twice);
   put_once = not_released_twice;
-  asked = (not_asked, not_for_another, not_by_another, not_in_a_datagram, not_another_told);
+  asked = (not_asked, not_for_another, not_by_another, not_in_a_datagram, not_another_told, not_told_by_another, not_elsewhere);
+  given_up = not_nothing;
   heard = (not_heard_and_held, not_heard_by_all);
   at_rest = not_at_rest;
 }
