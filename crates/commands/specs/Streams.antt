@@ -12,10 +12,13 @@ use Rattle.table_image.specs.Reading.{IsFirstFlaw, RefusesFirst, refusal}
 use Rattle.table_image.specs.Spelling.{image_spelling}
 use Rattle.table_image.specs.declared.flaw.Flaw.{Flaw}
 use Rattle.tables_file.specs.Files.{AreRefused}
-use Rattle.commands.specs.declared.input.TheConstants.{READS}
 
 -- ---- Inputs: what is left of one, its failed reads before and after the call, the reason of the last, the number of its
 -- reads, and which of them was the first that gave nothing, before and after the call
+
+-- the greatest number of reads of one input
+abbrev pub most_reads : ℕ
+most_reads = 16777216
 
 -- If no read had given nothing before, and one did in the call, it was the last read.
 abbrev pub EndsReading : Option ℕ → Option ℕ → ℕ → Type 0
@@ -41,8 +44,8 @@ pub record Uses {A X : Type 0} (left : Option (List ℕ)) (before after : ℕ) (
   pub reported : after ≢ before → result ≡ Err ReadFault
   pub found : OnOk result (IsSome end_after)
   pub last : EndsReading end_before end_after reads
-  pub read_fault : result ≡ Err ReadFault → (after ≢ before) ⊎ (reads ≡ READS)
-  pub limit : result ≡ Err ReadFault → after ≡ before → reads ≡ READS
+  pub read_fault : result ≡ Err ReadFault → (after ≢ before) ⊎ (reads ≡ most_reads)
+  pub limit : result ≡ Err ReadFault → after ≡ before → reads ≡ most_reads
 
 -- ---- Outputs: their failed writes before and after the call
 

@@ -16,8 +16,7 @@ ghost use Rattle.table_image.specs.Spelling.{image_spelling};
 ghost use Rattle.commands.specs.Captures.{PlayWrote, TraceWrote};
 ghost use Rattle.commands.specs.Pieces.{ReadsNoMore, ReadsUnflawed};
 ghost use Rattle.commands.specs.Streams.{First, IsImageRefused, IsPlayRefused, IsScriptRefused};
-ghost use Rattle.commands.specs.Streams.{Reads, Run, Uses};
-ghost use Rattle.commands.specs.declared.input.TheConstants.{READS};
+ghost use Rattle.commands.specs.Streams.{Reads, Run, Uses, most_reads};
 
 use crate::handing::{hand_over, keep_text};
 use crate::image_input::read_image;
@@ -167,8 +166,8 @@ pub fn capture_run<I: Read, S: Read, W: Write, C: Write>(
         IsImageRefused e ⊎ IsScriptRefused e ⊎ (e ≡ Error.WriteFault)) }
     ensures refused { Run (I.remaining image.old.reader) (S.remaining script.old.reader) result }
     ensures read_fault { result ≡ Err Error.ReadFault
-        → (image.new.faults ≢ image.old.faults) ⊎ (image.new.reads ≡ READS)
-        ⊎ (script.new.faults ≢ script.old.faults) ⊎ (script.new.reads ≡ READS) }
+        → (image.new.faults ≢ image.old.faults) ⊎ (image.new.reads ≡ most_reads)
+        ⊎ (script.new.faults ≢ script.old.faults) ⊎ (script.new.reads ≡ most_reads) }
     // A read fault is the error only where what was read of the image before has no flaw, and no
     // more of it is read than the piece that has the first flaw.
     ensures unflawed { result ≡ Err Error.ReadFault

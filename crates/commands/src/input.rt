@@ -4,8 +4,7 @@ ghost use Rattle.std.specs.Prelude.{None, length, take, ◌++◌, ◌<◌, ◌�
 ghost use Rattle.std.specs.Prelude.{IfOk, IfErr, IfSome, IsSome, OnOk, OnErr, IsOkUnless};
 ghost use Rattle.std.specs.Io.{ReadsAtMost};
 ghost use Rattle.std.specs.Io.KnownBytes.{Consumes, IsAtEnd, Keeps};
-ghost use Rattle.commands.specs.Streams.{EndsReading};
-ghost use Rattle.commands.specs.declared.input.TheConstants.{READS};
+ghost use Rattle.commands.specs.Streams.{EndsReading, most_reads};
 
 use at_base::Error;
 use std::alloc::{AllocError, Global};
@@ -72,10 +71,10 @@ impl<R: Read> Input<R> {
             IfSome (R.remaining self.old.reader) (λ bytes. v.items ≡ bytes)) }
         ensures end { OnOk result (IsAtEnd (R.remaining self.new.reader)) }
         ensures fault { result ≡ Err Error.ReadFault
-            → (self.new.faults ≢ self.old.faults) ⊎ (self.new.reads ≡ READS) }
+            → (self.new.faults ≢ self.old.faults) ⊎ (self.new.reads ≡ most_reads) }
         // If no read failed, the number of reads is at its limit.
         ensures limit { result ≡ Err Error.ReadFault → self.new.faults ≡ self.old.faults
-            → self.new.reads ≡ READS }
+            → self.new.reads ≡ most_reads }
         ensures refused { IfErr result (λ e. (e ≡ Error.ReadFault) ⊎ (e ≡ Error.Memory)) }
         // Only a failed read is counted, once.
         ensures stays { result ≢ Err Error.ReadFault → self.new.faults ≡ self.old.faults }
@@ -119,7 +118,7 @@ impl<R: Read> Input<R> {
             (Keeps (R.remaining self.old.reader) (R.remaining self.new.reader)) }
         ensures more { OnOk result (self.old.reads < self.new.reads) }
         ensures stays { OnOk result (self.new.faults ≡ self.old.faults) }
-        ensures fault { OnErr result ((self.new.faults ≢ self.old.faults) ⊎ (self.new.reads ≡ READS)) }
+        ensures fault { OnErr result ((self.new.faults ≢ self.old.faults) ⊎ (self.new.reads ≡ most_reads)) }
         // A failed read is counted once.
         ensures counts { OnErr result ((self.new.faults ≡ self.old.faults)
             ⊎ (self.new.faults ≡ (self.old.faults + 1) % 2 ^ 32)) }

@@ -11,8 +11,7 @@ ghost use Rattle.table_image.specs.Internet.{Internet};
 ghost use Rattle.table_image.specs.Spelling.{image_spelling};
 ghost use Rattle.commands.specs.Pieces.{ReadsNoMore, ReadsUnflawed};
 ghost use Rattle.commands.specs.Streams.{First, IsImageRefused, IsScriptRefused};
-ghost use Rattle.commands.specs.Streams.{Reads, Run, Wrote};
-ghost use Rattle.commands.specs.declared.input.TheConstants.{READS};
+ghost use Rattle.commands.specs.Streams.{Reads, Run, Wrote, most_reads};
 
 use crate::image_input::read_image;
 use crate::input::Input;
@@ -47,8 +46,8 @@ pub fn run_frozen<I: Read, S: Read, W: Write>(
         IsImageRefused e ⊎ IsScriptRefused e ⊎ (e ≡ Error.WriteFault)) }
     ensures refused { Run (I.remaining image.old.reader) (S.remaining script.old.reader) result }
     ensures read_fault { result ≡ Err Error.ReadFault
-        → (image.new.faults ≢ image.old.faults) ⊎ (image.new.reads ≡ READS)
-        ⊎ (script.new.faults ≢ script.old.faults) ⊎ (script.new.reads ≡ READS) }
+        → (image.new.faults ≢ image.old.faults) ⊎ (image.new.reads ≡ most_reads)
+        ⊎ (script.new.faults ≢ script.old.faults) ⊎ (script.new.reads ≡ most_reads) }
     // A read fault is the error only where what was read of the image before has no flaw, and no
     // more of it is read than the piece that has the first flaw.
     ensures unflawed { result ≡ Err Error.ReadFault

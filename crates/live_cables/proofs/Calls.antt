@@ -332,10 +332,13 @@ never_says r P h never = (λ q. absurd (differs r h q), λ p. absurd (never p))
 pub if_refused : {T P : Type 0} (r : Result T Error) (Q : Error → Type 0) → (r ≡ Err Full → P) → (r ≡ Err Memory → P → ⊥)
     → IfErr r (λ e. (e ≡ Full) ⊎ (e ≡ Memory)) → ((e : Error) → ((e ≡ Full) ↔ P) → Q e) → IfErr r Q
 if_refused (Ok x) Q full memory refused f = tt
-if_refused (Err e) Q full memory refused f = f e (λ same. full (ap Err same), λ none. elim refused [
-  | inl is ↦ is
-  | inr is ↦ absurd (memory (ap Err is) none)
-])
+if_refused (Err e) Q full memory refused f = f e (
+  λ same. full (ap Err same),
+  λ none. elim refused [
+    | inl is ↦ is
+    | inr is ↦ absurd (memory (ap Err is) none)
+  ],
+)
 
 pub on_ok : {T E : Type 0} (r : Result T E) (P : Type 0) → P → OnOk r P
 on_ok (Ok x) P h = h

@@ -71,12 +71,14 @@ pub full_by : {A : Type 0} (r : Result A Error) (seat : Option Seat) (s : Seat) 
     → ((r ≡ Err Full) ↔ ((seated ≡ true) × (length bytes ≤ 599) × HasNoRoom more c))
     → (r ≡ Err Full) ↔ ((1 ≤ room_by seat bytes more) × HasNoRoom (room_by seat bytes more) c)
 full_by r seat s bytes more c seated is there some full = elim (cases_lt 599 (length bytes)) [
-  | inl long ↦
-    (λ e. let fits = (full.0 e).1 in absurd (omega (arith, fits, long)),
-    λ x. absurd (let needs = x.0 in let zero = rw (is, lt-leb (length bytes) 599 long) at needs in omega (arith, zero)))
-  | inr few ↦
-    (λ e. (rw (is, le-leb (length bytes) 599 few) some, rw (is, le-leb (length bytes) 599 few) (full.0 e).2),
-    λ x. let none = x.1 in full.1 (there, few, rw (is, le-leb (length bytes) 599 few) at none))
+  | inl long ↦ (
+    λ e. let fits = (full.0 e).1 in absurd (omega (arith, fits, long)),
+    λ x. absurd (let needs = x.0 in let zero = rw (is, lt-leb (length bytes) 599 long) at needs in omega (arith, zero)),
+  )
+  | inr few ↦ (
+    λ e. (rw (is, le-leb (length bytes) 599 few) some, rw (is, le-leb (length bytes) 599 few) (full.0 e).2),
+    λ x. let none = x.1 in full.1 (there, few, rw (is, le-leb (length bytes) 599 few) at none),
+  )
 ]
 
 -- Where no room is needed, the bytes don't fit a frame.

@@ -4,7 +4,6 @@ use Rattle.std.specs.Prelude.{ℕ, ◌+◌, ◌-◌, true, ◌==◌, List, [], �
 use Rattle.at_base.specs.declared.address.Hw.{Hw}
 use Rattle.at_base.specs.Grammar.{Grammar, done, field, number, run, one, two}
 use Rattle.pcapng.specs.Fields.{Wrong, any, only_bytes, other, size}
-use Rattle.pcapng.specs.declared.frames.TheConstants.{MAX_BYTES}
 use Rattle.station.specs.declared.heard.Kind.{Kind}
 use Rattle.station.specs.declared.heard.Kind.TheVariants.{Aarp, Ddp}
 
@@ -17,7 +16,7 @@ pub record Frame : Type 0 where
 
 -- the most bytes of a packet in a frame
 abbrev pub max_bytes : ℕ
-max_bytes = MAX_BYTES
+max_bytes = 1492
 
 -- the test of a frame's length: at least the headers, and at most 1,500
 abbrev pub wrong_length : ℕ → Option Wrong

@@ -44,13 +44,16 @@ module _ (ms : List (Member Living LivingNode)) (k stamp : ℕ) (old new : Wires
   takes_or_stays : (e : Error) → ((new ≡ old) × (after ≡ before)) ⊎ (TakesIt × ((e ≡ Full) ↔ HasNoRoom 1 new.cabling)) → TakesOrStays e
   takes_or_stays e (inl same) = inl (ap (slice_set ms k) same.1 ∙ set_itself ms k before at, same.0)
   takes_or_stays e (inr x) =
-      inr (record {
-        m = before;
-        after = after;
-        there = at;
-        does = x.0;
-        set = refl;
-      }, x.1)
+      inr (
+        record {
+          m = before;
+          after = after;
+          there = at;
+          does = x.0;
+          set = refl;
+        },
+        x.1,
+      )
 
   pub take_stopped : {U : Type 0} (r : Result U Error)
       → IfErr r (λ e. ((new ≡ old) × (after ≡ before)) ⊎ (TakesIt × ((e ≡ Full) ↔ HasNoRoom 1 new.cabling))) → IfErr r TakesOrStays

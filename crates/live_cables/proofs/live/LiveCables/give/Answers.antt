@@ -90,11 +90,15 @@ pub returns-clause-part : goal.returns-clause-part
 returns-clause-part c =
     rw (← c.self.view_is)
     (if_refused c.lose_from.result _ c.lose_from.ensures.full c.lose_from.ensures.memory c.lose_from.ensures.refused
-    (λ e full. inr (gives_out (wires c.self.inside.cables c.self.inside.near c.self.inside.losing.items)
-    (wires c.lose_from.new.cables c.give_all.new.near c.self.inside.losing.items) c.transcript-from.result.now c.deref.result.now
-    (record { lines_are = c.transcript-from.ensures.value; losing_are = c.deref.ensures.value }) c.args.station _ c.face.new.self
-    (c.give_all.new.cables, c.give_all.new.near)
-    (is_knowing c.self.inside.cables c.self.inside.near c.face.new.self c.self.inside.losing.items c.args.station c.face.ensures
-    c.self.invariant.0) c.in-Ok.ensures.given c.lose_from.ensures.loses refl
-    (stays_known c.self.inside.cables c.lose_from.new.cables c.self.inside.near c.face.new.self c.give_all.new.near
-    c.self.inside.losing.items c.args.station c.face.ensures c.give_all.ensures.near), c.in-Ok.ensures.emptied, full)))
+    (λ e full. inr (
+      gives_out (wires c.self.inside.cables c.self.inside.near c.self.inside.losing.items)
+          (wires c.lose_from.new.cables c.give_all.new.near c.self.inside.losing.items) c.transcript-from.result.now c.deref.result.now
+          (record { lines_are = c.transcript-from.ensures.value; losing_are = c.deref.ensures.value }) c.args.station _ c.face.new.self
+          (c.give_all.new.cables, c.give_all.new.near)
+          (is_knowing c.self.inside.cables c.self.inside.near c.face.new.self c.self.inside.losing.items c.args.station c.face.ensures
+          c.self.invariant.0) c.in-Ok.ensures.given c.lose_from.ensures.loses refl
+          (stays_known c.self.inside.cables c.lose_from.new.cables c.self.inside.near c.face.new.self c.give_all.new.near
+          c.self.inside.losing.items c.args.station c.face.ensures c.give_all.ensures.near),
+      c.in-Ok.ensures.emptied,
+      full,
+    )))

@@ -100,16 +100,19 @@ returns-clause-stopped g c =
     (sym c.is_full_for.ensures ∙ c.if-is_full_for.false) in
     rw (← c.self.view_is)
     (if_refused c.lose_from.result _ c.lose_from.ensures.full c.lose_from.ensures.memory c.lose_from.ensures.refused
-    (λ e full. inr (takes_in (wires c.self.inside.cables c.self.inside.near c.self.inside.losing.items)
-    (wires c.lose_from.new.cables c.take.new.near c.self.inside.losing.items) c.transcript-from.result.now c.deref.result.now
-    (record { lines_are = c.transcript-from.ensures.value; losing_are = c.deref.ensures.value }) c.args.stamp c.args.station _ _
-    c.face.new.self (c.take.new.cables, c.take.new.near)
-    (λ none. not_crowded _ _ _ free (named_is c.self.inside.cables c.args.stamp c.args.station _ c.take.new.cables c.in-Ok.ensures.takes)
-    none)
-    (is_knowing c.self.inside.cables c.self.inside.near c.face.new.self c.self.inside.losing.items c.args.station c.face.ensures
-    c.self.invariant.0) c.in-Ok.ensures.taken c.lose_from.ensures.loses refl
-    (stays_taken c.args.stamp c.args.station _ _ c.self.inside.cables c.take.new.cables c.lose_from.new.cables c.self.inside.near
-    c.face.new.self c.take.new.near c.self.inside.losing.items c.args.station c.face.ensures c.in-Ok.ensures.taken), full)))
+    (λ e full. inr (
+      takes_in (wires c.self.inside.cables c.self.inside.near c.self.inside.losing.items)
+          (wires c.lose_from.new.cables c.take.new.near c.self.inside.losing.items) c.transcript-from.result.now c.deref.result.now
+          (record { lines_are = c.transcript-from.ensures.value; losing_are = c.deref.ensures.value }) c.args.stamp c.args.station _ _
+          c.face.new.self (c.take.new.cables, c.take.new.near)
+          (λ none. not_crowded _ _ _ free (named_is c.self.inside.cables c.args.stamp c.args.station _ c.take.new.cables c.in-Ok.ensures.takes)
+          none)
+          (is_knowing c.self.inside.cables c.self.inside.near c.face.new.self c.self.inside.losing.items c.args.station c.face.ensures
+          c.self.invariant.0) c.in-Ok.ensures.taken c.lose_from.ensures.loses refl
+          (stays_taken c.args.stamp c.args.station _ _ c.self.inside.cables c.take.new.cables c.lose_from.new.cables c.self.inside.near
+          c.face.new.self c.take.new.near c.self.inside.losing.items c.args.station c.face.ensures c.in-Ok.ensures.taken),
+      full,
+    )))
 
 pub returns-clause-not_pending : goal.returns-clause-not_pending
 returns-clause-not_pending g c =
