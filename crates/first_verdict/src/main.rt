@@ -1,5 +1,5 @@
 //! Audits the image on standard input, and prints the line of the verdict, or why there is no image.
-//! It needs three crates alone, so `make audit` runs it before anything is proved.
+//! It stands on five crates alone, so `make audit` runs it before anything is proved.
 #![tactic(auto)]
 
 use at_base::Error;
