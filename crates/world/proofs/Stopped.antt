@@ -66,7 +66,7 @@ pub first_stopped : (stamp station : ℕ) (ms now : List (Member Living LivingNo
     → ((now ≡ ms) × (new ≡ old)) ⊎ (IsTaker stamp station ms now old new × ((e ≡ Full) ↔ HasNoRoom 1 new.cabling))
     → MayTake e ms now old new
 first_stopped stamp station ms now old new e least room full (inl same) =
-    inl (same.0, same.1, (λ is. subst (λ (w : Wires). HasNoRoom 1285 w.cabling) same.1 (full is)), room)
+    inl (same.0, same.1, (λ is. subst (λ (w : Wires). HasNoRoom 1285 w.cabling) same.1 (full is), room))
 first_stopped stamp station ms now old new e least room full (inr taken) =
     inr (record { stamp = stamp; station = station; least = least; by = taken.0 }, taken.1)
 
