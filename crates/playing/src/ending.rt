@@ -133,6 +133,7 @@ fn write_capture<C: Write>(
         (C.contents capture.new.writer) (capture.old.text.items
         ++ history_capture lived.now.world lived.now.counts.items)) }
     ensures prints { Prints capture.old.faults capture.new.faults result }
+    ensures empty { OnOk result (capture.new.text.items ≡ []) }
 {
     let plan = lived.world.plan();
     let seats = seats_of(alloc, plan)?;

@@ -28,6 +28,15 @@ ended X e (inl full) = inl full
 ended X e (inr (inl memory)) = inr (inl memory)
 ended X e (inr (inr fault)) = inr (inr fault.0)
 
+-- An error of the play is one of those with a capture.
+wider : {F P A B C : Type 0} → F ⊎ (P × (A ⊎ B)) → F ⊎ (P × (A ⊎ (B ⊎ C)))
+wider (inl fault) = inl fault
+wider (inr (file, inl full)) = inr (file, inl full)
+wider (inr (file, inr memory)) = inr (file, inr (inl memory))
+
+pub returns-in-Err-clause-refused : goal.returns-in-Err-clause-refused
+returns-in-Err-clause-refused g c = wider c.in-Err.ensures.refused
+
 pub returns-in-Err-end_captured-clause-refused : goal.returns-in-Err-end_captured-clause-refused
 returns-in-Err-end_captured-clause-refused g c =
     inr ((c.in-Ok.lived.world.plan, c.in-Ok.ensures.file), ended _ c.in-Err-end_captured.error c.in-Err-end_captured.ensures.refused)
@@ -40,5 +49,5 @@ returns-in-Err-end_captured-clause-full g c = λ is.
     let error : c.in-Err-end_captured.error ≡ Full = cc is in (
       w.plan,
       has.file,
-      inr (outgrows c.args.version c.args.text.now w has.lived.0 ran (c.in-Err-end_captured.ensures.full (ap Err error))),
+      inr (outgrows c.args.version c.args.text.now w has.lived.0 ran (c.in-Err-end_captured.ensures.full.0 (ap Err error))),
     )

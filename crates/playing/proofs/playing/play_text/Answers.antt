@@ -25,4 +25,4 @@ returns-in-Err-end-clause-full g c = λ is.
     let w = c.in-Ok.lived.world in
     let ran : Ran c.args.text.now w has.lived.0 = record { file = has.file; keeps = has.keeps; whole = has.whole; going = has.going } in
     let error : c.in-Err-end.error ≡ Full = cc is in
-    (w.plan, has.file, inr (outgrows c.args.version c.args.text.now w has.lived.0 ran (c.in-Err-end.ensures.full (ap Err error))))
+    (w.plan, has.file, inr (outgrows c.args.version c.args.text.now w has.lived.0 ran (c.in-Err-end.ensures.full.0 (ap Err error))))
