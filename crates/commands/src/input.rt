@@ -37,7 +37,7 @@ pub struct Input<R> {
     pub image: Option<Image>,
     /// The byte at the place where an image that was read has its first flaw.
     pub flawed: Option<u8>,
-    ghost counted: { reads ≤ READS },
+    ghost counted: { reads ≤ most_reads },
 }
 
 impl<R: Read> Input<R> {

@@ -1,7 +1,9 @@
-use Rattle.std.proofs.Common.{rules, ◌≡◌, ◌⊎◌, List, ℕ, IfSome, inl, inr, subst}
+use Rattle.std.proofs.Common.{rules, ◌≡◌, ◌⊎◌, List, ℕ, Option, Err, IfSome, ap, inl, inr, subst}
 use Rattle.at_base.specs.declared.error.Error.{Error}
 use Rattle.at_base.specs.declared.error.Error.TheVariants.{Full, Memory, WriteFault}
 use Rattle.internet_file.specs.Files.{IsFile, IsFileRefused, Planned}
+use Rattle.playing.specs.Lives.{Fills, Outgrows}
+use Rattle.table_image.specs.declared.version.Version.{Version}
 use Rattle.commands.specs.Streams.{IsPlayRefused}
 use Rattle.commands.proofs.Known.{CapturedOf, map_some, play_named}
 use Rattle.commands.proofs.capturing.read_and_capture.Goals as goal
@@ -38,3 +40,15 @@ returns-in-Err-clause-refused g c =
 
 pub returns-in-Err-clause-named : goal.returns-in-Err-clause-named
 returns-in-Err-clause-named g c = named c.in-Err.error c.as_slice.result.now c.in-Err.ensures.refused
+
+-- The play is full: one of the plan's ticks has no room, or version 1 is asked for and not enough.
+abbrev IsFull : Option Version → List ℕ → Type 0
+IsFull version text = (plan : Planned) × IsFile text plan × (Fills plan ⊎ Outgrows version plan)
+
+pub returns-in-Err-clause-full : goal.returns-in-Err-clause-full
+returns-in-Err-clause-full g c = λ is.
+    let error : c.in-Err.error ≡ Full = cc is in
+    let read : IfSome (g.R.Read.remaining c.args.input.now.reader) (λ bytes. c.in_ok-text.text.items ≡ bytes) = search rules in
+    let given : c.as_slice.result.now ≡ c.in_ok-text.text.items = search rules in
+    map_some _ _ (g.R.Read.remaining c.args.input.now.reader) read
+    (λ text same. subst (IsFull c.args.version) same (subst (IsFull c.args.version) given (c.in-Err.ensures.full (ap Err error))))
