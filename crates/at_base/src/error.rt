@@ -44,7 +44,7 @@ pub enum Cause {
     Cut,
     /// The first four bytes aren't `ATIM`.
     Magic,
-    /// The version isn't 1.
+    /// The version is neither 1 nor 2.
     Version,
     /// A list is longer than its limit.
     Count,
@@ -54,7 +54,7 @@ pub enum Cause {
     Value,
     /// A text isn't a valid zone name, object or type.
     Name,
-    /// A start or an enumerator isn't above the one before it.
+    /// A start, an enumerator or the address of a mapping isn't above the one before it.
     Order,
     /// Bytes follow the nodes.
     Trailing,
@@ -111,7 +111,7 @@ impl fmt::Display for Place {
 /// The first rule that is broken, and the first place that breaks it.
 #[derive(Clone, Copy, Debug, PartialEq, Eq)]
 pub struct Fault {
-    /// The number of the rule: 1 to 9, as in C1.
+    /// The number of the rule: 1 to 10, as in C1.
     pub rule: u8,
     pub place: Place,
 }
