@@ -1,5 +1,5 @@
 -- The effect of a whole call on live cables.
-use Rattle.std.proofs.Common.{◌≡◌, ℕ, ◌+◌, Bool, true, not, IsTrue, List, [], ◌∷◌, ◌++◌, refl, sym, ap, ◌∙◌, subst, arith}
+use Rattle.std.proofs.Common.{◌≡◌, ℕ, ◌+◌, Bool, true, false, not, IsTrue, List, [], ◌∷◌, ◌++◌, refl, sym, ap, ◌∙◌, subst, arith}
 use Rattle.std.proofs.Common.{Err, Ok, append-nil, append_assoc, drop, eq-eqb, inl, inr, length}
 use Rattle.std.specs.Prelude.{◌⊎◌, ◌↔◌, IfErr, OnErr, OnOk, Result}
 use Rattle.at_base.specs.declared.error.Error.{Error}
@@ -18,7 +18,7 @@ use Rattle.cable_model.specs.declared.seat.Seat.{Seat}
 use Rattle.cable_model.proofs.Counting.{contained_at, count-append}
 use Rattle.live_cables.proofs.Pending.{both, has_any, or_first, or_second}
 use Rattle.live_cables.proofs.Played.{allowed_append, due_append, losses-append, nothing_played, played_then}
-use Rattle.live_cables.specs.Living.{IsTakenBy, Plays, PlaysOn, Stays, Wires, happened, loses}
+use Rattle.live_cables.specs.Living.{IsLossDue, IsTakenBy, Plays, PlaysOn, Stays, Wires, happened, loses}
 use Rattle.live_cables.specs.Playing.{AreDue, IsDueThen, IsPlayed, are_allowed, is_in, is_took, losses, may_be}
 use Rattle.live_cables.proofs.Losses.{all_losses}
 use Rattle.live_cables.specs.Steps.{IsSendable, Loses, Puts, Takes, are_calm, are_gone, is_loss, losses_since}
@@ -260,6 +260,17 @@ module _ (taken : ℕ) (old new : Wires) (mid : Cabling) (front : List Line) (lo
             (l.seats ∙ m.seats) gone));
       }
 
+  -- What is to be lost of the entries before the losses is what is to be lost of all of them.
+  pub due_now : are_gone (losses_since losing (length front) mid) new.cabling ≡ false → IsLossDue old new.cabling
+  due_now due =
+      let count = length old.cabling.lines in
+      let whole : losses_since old.losing count new.cabling ≡ losses (loses old) m.added =
+      ap (λ es. losses (loses old) (drop count es)) grown
+      ∙ (ap (losses (loses old))
+      (dropped (happened old) (m.added ++ l.added) count (sym (length-map old.cabling.lines (entry_at old.cabling.kept))))
+      ∙ same_losses old.cabling.seats (loses old) m.added l.added ends_with) in
+      subst (λ ss. are_gone ss new.cabling ≡ false) (these ∙ sym whole) due
+
 -- A call that stopped before its losses.
 pub plays_midst : (taken : ℕ) (old new : Wires) → Stays old new → Midst (loses old) taken old.cabling new.cabling → Plays old new
 plays_midst taken old new stays m = record {
@@ -339,6 +350,13 @@ if_refused (Err e) Q full memory refused f = f e (
     | inr is ↦ absurd (memory (ap Err is) none)
   ],
 )
+
+-- The same where a fact holds after any error.
+pub if_refused_due : {T P D : Type 0} (r : Result T Error) (Q : Error → Type 0) → (r ≡ Err Full → P) → (r ≡ Err Memory → P → ⊥)
+    → IfErr r (λ e. (e ≡ Full) ⊎ (e ≡ Memory)) → OnErr r D → ((e : Error) → ((e ≡ Full) ↔ P) → D → Q e) → IfErr r Q
+if_refused_due (Ok x) Q full memory refused due f = tt
+if_refused_due (Err e) Q full memory refused due f =
+    if_refused (Err e) Q full memory refused (λ e same. f e same due)
 
 pub on_ok : {T E : Type 0} (r : Result T E) (P : Type 0) → P → OnOk r P
 on_ok (Ok x) P h = h

@@ -14,7 +14,7 @@ use Rattle.cable_model.specs.Transcript.{Entry, Sent, Put, Took, Reached, Droppe
 use Rattle.cable_model.specs.declared.entry.Entry.{Entry as Line}
 use Rattle.cable_model.specs.declared.entry.Entry.TheVariants as line
 use Rattle.cable_model.specs.declared.seat.Seat.{Seat}
-use Rattle.live_cables.proofs.Pending.{both, Has, has_any, lost_ends, none_any, pending_since}
+use Rattle.live_cables.proofs.Pending.{both, Has, has_any, lost_ends, none_any, or_first, or_second, pending_since}
 use Rattle.live_cables.specs.Playing.{is_in, losses}
 use Rattle.live_cables.specs.Steps.{AreLossesOf, Loses, are_gone, is_loss, line_losses}
 
@@ -127,6 +127,22 @@ gone_lost stamp old new x =
     lost_ends new.seats (transcript old) [] stamp p (sym (in_one stamp p.frame.stamp e))
     (subst (λ l. Has (pending new.seats l) p) (x.added ∙ sym (append-nil (transcript old ++ Lost stamp ∷ []))) g))
 
+-- What is among some frames of which one is pending still is among others: one of these is.
+pub due_more : (xs ys : List ℕ) (c : Cabling) → ((n : ℕ) → is_in xs n ≡ true → is_in ys n ≡ true) → are_gone xs c ≡ false
+    → are_gone ys c ≡ false
+due_more xs ys c f due = by (are_gone ys c) refl
+  where
+    by : (b : Bool) → are_gone ys c ≡ b → b ≡ false
+    by true gone =
+        absurd (true≢false (sym (gone_by xs c (λ p g e. not_there ys c gone p g (f p.frame.stamp e))) ∙ due))
+    by false e = refl
+
+in_first : (xs ys : List ℕ) (n : ℕ) → is_in xs n ≡ true → is_in (xs ++ ys) n ≡ true
+in_first xs ys n e = list_any-append (λ s. s == n) xs ys ∙ or_first (is_in xs n) (is_in ys n) e
+
+in_second : (xs ys : List ℕ) (n : ℕ) → is_in ys n ≡ true → is_in (xs ++ ys) n ≡ true
+in_second xs ys n e = list_any-append (λ s. s == n) xs ys ∙ or_second (is_in xs n) (is_in ys n) e
+
 -- A frame among some frames and others, that isn't among the first of them, is among the others.
 in_others : (xs ys : List ℕ) (n : ℕ) → is_in (xs ++ ys) n ≡ true → is_in xs n ≡ false → is_in ys n ≡ true
 in_others xs ys n here out =
@@ -229,6 +245,14 @@ module _ (losing : ℕ → Bool) (old mid : Cabling) (from end : ℕ) (less : fr
       → IsTrue (are_gone (line_losses losing (drop (from + 1) (take end mid.lines))) new)
       → IsTrue (are_gone (line_losses losing (drop from (take end old.lines))) new)
   all_between_gone new here rest gone = subst (λ ss. IsTrue (are_gone ss new)) (sym splits) (gone_then _ _ mid new here rest gone)
+
+  pub first_between_due : are_gone (line_losses losing (take 1 (drop from old.lines))) mid ≡ false
+      → are_gone (line_losses losing (drop from (take end old.lines))) mid ≡ false
+  first_between_due due = subst (λ ss. are_gone ss mid ≡ false) (sym splits) (due_more _ _ mid (in_first _ _) due)
+
+  pub rest_between_due : (new : Cabling) → are_gone (line_losses losing (drop (from + 1) (take end mid.lines))) new ≡ false
+      → are_gone (line_losses losing (drop from (take end old.lines))) new ≡ false
+  rest_between_due new due = subst (λ ss. are_gone ss new ≡ false) (sym splits) (due_more _ _ new (in_second _ _) due)
 
 -- No cable loses frames.
 none_loses : (losing : List Bool) (k : ℕ) → list_any (λ b. b) losing ≡ false → unwrap_or (slice_get losing k) false ≡ false

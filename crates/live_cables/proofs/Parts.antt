@@ -1,7 +1,8 @@
 -- Calls that were refused before they were done.
-use Rattle.std.proofs.Common.{◌≡◌, ◌↔◌, ℕ, zero, suc, ◌≤◌, ◌-◌, List, [], ◌∷◌, Option, Result, Err, refl, ap, ◌∙◌, subst, arith, drop, length, slice_get, take}
+use Rattle.std.proofs.Common.{◌≡◌, ◌↔◌, ℕ, zero, suc, ◌≤◌, ◌<◌, ◌-◌, List, [], ◌∷◌, Option, Result, Err, refl, ap, ◌∙◌, subst, arith, drop, length, slice_get, take}
 use Rattle.std.specs.Prelude.{slice_index_or}
 use Rattle.std.proofs.Math.Seq.{take-length}
+use Rattle.std.proofs.lemmas.List.{length-take}
 use Rattle.at_base.specs.declared.address.Addr.{Addr}
 use Rattle.at_base.specs.declared.error.Error.{Error}
 use Rattle.at_base.specs.declared.error.Error.TheVariants.{Full}
@@ -53,6 +54,13 @@ asked_more seat own [] n d a b c some x y = absurd (omega (arith, some))
 asked_more seat own (addr ∷ addrs) n d a b c some x y =
     let less : length (addr ∷ addrs) - 1 ≡ length addrs = omega arith in
     (b, x, subst (λ l. AreAsked seat own (take n l) b c) (ap (λ k. take k addrs) less ∙ take-length addrs) y)
+
+-- What is a place of the rest of a list is, one further, a place of the list.
+pub one_more : {X : Type 0} (xs : List X) (n : ℕ) → 1 ≤ length xs → n < length (take (length xs - 1) (drop 1 xs))
+    → suc n < length xs
+one_more [] n some less = absurd (omega (arith, some))
+one_more (x ∷ xs) n some less =
+    let few = length-take (length (x ∷ xs) - 1) xs in omega (arith, less, few)
 
 -- Outputs were sent, under the names that the call gives its parts.
 pub sends_now : (old new : Wires) (station : ℕ) (e : Error) (outputs left : List Output) (near : Knowing) (mid : Cabling × Knowing)

@@ -1,5 +1,5 @@
 -- The contents of live cables.
-use Rattle.std.specs.Prelude.{Bool, Contains, IsTrue, List, Option, [], false, length, slice_get, take, ℕ, ◌++◌, ◌∷◌, ◌≡◌, ◌⊎◌, ◌↔◌}
+use Rattle.std.specs.Prelude.{Bool, Contains, IsTrue, List, Option, [], false, length, slice_get, take, ℕ, ◌++◌, ◌∷◌, ◌≡◌, ◌<◌, ◌⊎◌, ◌↔◌}
 use Rattle.std.specs.Option.{unwrap_or}
 use Rattle.aarp.specs.Mapping.{Mappings, shed, to_ask}
 use Rattle.at_base.specs.Range.{Span}
@@ -99,13 +99,22 @@ SendsUpTo e station outputs left old new =
     × AreGivenUpTo e station outputs left (old.cabling, knowing old station) mid × (new.cabling ≡ mid.0)
     × (new.maps ≡ mid.1.maps) × Stays old new
 
+-- A frame that a call put on a cable that loses frames is pending still.
+abbrev pub IsLossDue : Wires → Cabling → Type 0
+IsLossDue old new = are_gone (losses_since old.losing (length old.cabling.lines) new) new ≡ false
+
+-- A loss was refused by this error: a frame that a call put on a cable that loses frames is pending still. The error is
+-- Full where there is no room for another loss, and only there.
+pub record IsLossRefused (e : Error) (old new : Wires) : Type 0 where
+  pub full : (e ≡ Full) ↔ HasNoRoom 1 new.cabling
+  pub due : IsLossDue old new.cabling
+
 -- The first of a station's outputs were sent, and the next one was refused by this error; or all of them were sent, and
--- then some of the frames were lost that this call put on cables that lose frames, and the error is Full where there is
--- no room for another loss, and only there.
+-- then some of the frames were lost that this call put on cables that lose frames, and the next loss was refused.
 abbrev pub GivesInPart : Error → ℕ → List Output → List Output → Wires → Wires → Type 0
 GivesInPart e station outputs left old new =
     SendsUpTo e station outputs left old new
-    ⊎ (GivesOut station outputs old new × (left ≡ []) × ((e ≡ Full) ↔ HasNoRoom 1 new.cabling))
+    ⊎ (GivesOut station outputs old new × (left ≡ []) × IsLossRefused e old new)
 
 -- There was room for as many entries as a take may need. A station took a frame, resolving addresses by its own mappings,
 -- and its outputs were sent, or held; then the mapping of an AARP response was learnt, and the datagrams that were held for
@@ -132,22 +141,23 @@ PassesFor seat old new =
 abbrev pub Asks : ℕ → List Addr → Wires → Cabling → Type 0
 Asks seat addrs old new = AreAsked (slice_get old.cabling.seats seat) (slice_get old.own seat) addrs old.cabling new
 
--- The first datagrams that a seat's tick gives up were lost, after all frames that its requests put on cables that lose
--- frames.
+-- The first datagrams that a seat's tick gives up were lost, and not all, after all frames that its requests put on
+-- cables that lose frames.
 abbrev pub ShedsInPart : ℕ → Wires → Cabling → Cabling → Type 0
 ShedsInPart seat old asked new =
     (lost : Cabling) × Loses (losses_since old.losing (length old.cabling.lines) asked) asked lost
     × IsTrue (are_gone (losses_since old.losing (length old.cabling.lines) asked) lost)
-    × (n : ℕ) × AreShed (take n (shed (held_in old.maps seat))) lost new
+    × (n : ℕ) × (n < length (shed (held_in old.maps seat))) × AreShed (take n (shed (held_in old.maps seat))) lost new
 
--- The mappings of a seat advanced by a tick, and the first of its AARP requests were sent again; or all of them were, and
--- then some of the frames were lost that they put on cables that lose frames; or all of these were, and then the first of
--- the datagrams that the tick gives up.
+-- The mappings of a seat advanced by a tick, and the first of its AARP requests were sent again, and not all; or all of
+-- them were, and then some of the frames were lost that they put on cables that lose frames, and not all; or all of these
+-- were, and then the first of the datagrams that the tick gives up.
 abbrev pub PassesInPart : ℕ → Wires → Wires → Type 0
 PassesInPart seat old new =
-    (((n : ℕ) × Asks seat (take n (to_ask (held_in old.maps seat))) old new.cabling)
+    (((n : ℕ) × (n < length (to_ask (held_in old.maps seat)))
+    × Asks seat (take n (to_ask (held_in old.maps seat))) old new.cabling)
     ⊎ ((asked : Cabling) × Asks seat (to_ask (held_in old.maps seat)) old asked
-    × (Loses (losses_since old.losing (length old.cabling.lines) asked) asked new.cabling
+    × ((Loses (losses_since old.losing (length old.cabling.lines) asked) asked new.cabling × IsLossDue old new.cabling)
     ⊎ ShedsInPart seat old asked new.cabling)))
     × (new.maps ≡ with_tick old.maps seat) × Stays old new
 

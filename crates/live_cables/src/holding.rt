@@ -1,6 +1,6 @@
 //! Held datagrams that go out, or are given up.
 
-ghost use Rattle.std.specs.Prelude.{◌≡◌, ◌≤◌, ◌+◌, ◌⊎◌, ℕ, IfErr, OnErr, OnOk, Some, filter, length, map, not, take};
+ghost use Rattle.std.specs.Prelude.{◌≡◌, ◌≤◌, ◌<◌, ◌+◌, ◌⊎◌, ℕ, IfErr, OnErr, OnOk, Some, filter, length, map, not, take};
 ghost use Rattle.aarp.specs.Mapping.{is_for};
 ghost use Rattle.cable_model.specs.Logs.{Adds, transcript};
 ghost use Rattle.cable_model.specs.Outgoing.{let_go};
@@ -63,7 +63,8 @@ fn shed_one(cables: &mut Cables, stamp: u32) -> Result<(), Error>
 /// `Memory`; the first of them are given up then.
 pub fn shed_all(cables: &mut Cables, stamps: &[u32]) -> Result<(), Error>
     ensures shed { OnOk result (AreShed stamps.now cables.old cables.new) }
-    ensures part { (n : ℕ) × AreShed (take n stamps.now) cables.old cables.new }
+    ensures part { (n : ℕ) × AreShed (take n stamps.now) cables.old cables.new
+        × OnErr result (n < length stamps.now) }
     ensures full { (result ≡ Err Error.Full) → HasNoRoom 1 cables.new }
     ensures memory { result ≡ Err Error.Memory → HasNoRoom 1 cables.new → ⊥ }
     ensures refused { IfErr result (λ e. (e ≡ Error.Full) ⊎ (e ≡ Error.Memory)) }

@@ -14,7 +14,7 @@ ghost use Rattle.cable_model.specs.Transcript.{ArePutOnce};
 ghost use Rattle.live_cables.specs.Finding.{held_at};
 ghost use Rattle.live_cables.specs.Holding.{AreFew};
 ghost use Rattle.live_cables.specs.Living.{GivesInPart, GivesOut, IsSentOver, IsTakenBy, PassesFor, PassesInPart};
-ghost use Rattle.live_cables.specs.Living.{Plays, PlaysOn, TakesIn, TakesStill, happened};
+ghost use Rattle.live_cables.specs.Living.{IsLossRefused, Plays, PlaysOn, TakesIn, TakesStill, happened};
 ghost use Rattle.live_cables.specs.Putting.{first_room};
 ghost use Rattle.live_cables.specs.Steps.{HasNoRoom};
 ghost use Rattle.station.specs.Lawful.{AreLawful, IsNext};
@@ -235,7 +235,7 @@ impl LiveCables {
         ensures stopped { IfErr result (λ e. ((self.new ≡ self.old) × (taker.new ≡ taker.old))
             ⊎ (TakesIn stamp station (S.ports_of taker.old)
             (λ h added. S.hears taker.old h added taker.new) self.old self.new
-            × ((e ≡ Error.Full) ↔ HasNoRoom 1 self.new.cabling))) }
+            × IsLossRefused e self.old self.new)) }
         ensures still_taken { self.old.losing ≡ [] → OnOk result
             (TakesStill stamp station (S.ports_of taker.old)
             (λ h added. S.hears taker.old h added taker.new) self.old self.new) }

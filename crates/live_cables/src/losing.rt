@@ -63,6 +63,7 @@ fn lose(cables: &mut Cables, stamp: u32) -> Result<(), Error>
     ensures further { (more : List Line) × (cables.new.lines ≡ cables.old.lines ++ more) }
     ensures rooms { cables.new.rooms ≡ cables.old.rooms }
     ensures gone { OnOk result (IsTrue (are_gone (stamp ∷ []) cables.new)) }
+    ensures due { OnErr result (are_gone (stamp ∷ []) cables.new ≡ false) }
     ensures full { (result ≡ Err Error.Full)
         ↔ ((list_any (has_stamp stamp) (pending_on cables.old) ≡ true)
         × HasNoRoom 1 cables.old) }
@@ -86,6 +87,8 @@ fn lose_at(cables: &mut Cables, losing: &[bool], index: usize) -> Result<(), Err
     ensures rooms { cables.new.rooms ≡ cables.old.rooms }
     ensures gone { OnOk result (IsTrue (are_gone
         (line_losses (loses_by losing.now) (take 1 (drop index cables.old.lines))) cables.new)) }
+    ensures due { OnErr result (are_gone (line_losses (loses_by losing.now)
+        (take 1 (drop index cables.old.lines))) cables.new ≡ false) }
     ensures full { (result ≡ Err Error.Full) → HasNoRoom 1 cables.new }
     ensures memory { result ≡ Err Error.Memory → HasNoRoom 1 cables.new → ⊥ }
     ensures refused { IfErr result (λ e. (e ≡ Error.Full) ⊎ (e ≡ Error.Memory)) }
@@ -105,6 +108,8 @@ fn lose_between(cables: &mut Cables, losing: &[bool], from: usize, end: usize) -
     ensures rooms { cables.new.rooms ≡ cables.old.rooms }
     ensures gone { OnOk result (IsTrue (are_gone
         (line_losses (loses_by losing.now) (drop from (take end cables.old.lines))) cables.new)) }
+    ensures due { OnErr result (are_gone (line_losses (loses_by losing.now)
+        (drop from (take end cables.old.lines))) cables.new ≡ false) }
     ensures full { (result ≡ Err Error.Full) → HasNoRoom 1 cables.new }
     ensures memory { result ≡ Err Error.Memory → HasNoRoom 1 cables.new → ⊥ }
     ensures refused { IfErr result (λ e. (e ≡ Error.Full) ⊎ (e ≡ Error.Memory)) }
@@ -128,6 +133,9 @@ pub fn lose_from(cables: &mut Cables, losing: &[bool], from: usize) -> Result<()
         → IsOk result × (cables.new ≡ cables.old) }
     ensures gone { OnOk result
         (IsTrue (are_gone (losses_since losing.now from cables.old) cables.new)) }
+    // After an error a frame that is to be lost is pending still.
+    ensures due { OnErr result
+        (are_gone (losses_since losing.now from cables.old) cables.new ≡ false) }
     ensures full { (result ≡ Err Error.Full) → HasNoRoom 1 cables.new }
     ensures memory { result ≡ Err Error.Memory → HasNoRoom 1 cables.new → ⊥ }
     ensures refused { IfErr result (λ e. (e ≡ Error.Full) ⊎ (e ≡ Error.Memory)) }

@@ -1,6 +1,6 @@
 //! Requests that are sent again.
 
-ghost use Rattle.std.specs.Prelude.{◌≡◌, ◌≤◌, ◌⊎◌, ℕ, IfErr, IsSome, OnErr, OnOk, length, slice_get, take};
+ghost use Rattle.std.specs.Prelude.{◌≡◌, ◌≤◌, ◌<◌, ◌⊎◌, ℕ, IfErr, IsSome, OnErr, OnOk, length, slice_get, take};
 ghost use Rattle.live_cables.specs.Putting.{AreAsked};
 ghost use Rattle.live_cables.specs.Steps.{HasNoRoom, Puts};
 
@@ -23,7 +23,8 @@ pub fn ask_all(
     requires { limit ≡ cables.old.limit }
     ensures asked { OnOk result (AreAsked (slice_get near.now.seats seat)
         (slice_get near.now.own seat) addrs.now cables.old cables.new) }
-    ensures part { OnErr result ((n : ℕ) × AreAsked (slice_get near.now.seats seat)
+    ensures part { OnErr result ((n : ℕ) × (n < length addrs.now)
+        × AreAsked (slice_get near.now.seats seat)
         (slice_get near.now.own seat) (take n addrs.now) cables.old cables.new) }
     ensures rooms { cables.new.rooms ≡ cables.old.rooms }
     ensures puts { Puts cables.old cables.new }

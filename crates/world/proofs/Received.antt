@@ -3,12 +3,11 @@ use Rattle.std.proofs.Common.{◌≡◌, ◌≢◌, ◌⊎◌, inl, inr, ℕ, ze
 use Rattle.std.proofs.Common.{Option, None, Some, Contains, ◌-◌, refl, sym, ap, ◌∙◌, subst, arith, filter, length, map, slice_set}
 use Rattle.std.specs.List.{All, AllByRecursion as Each}
 use Rattle.std.specs.Option.{unwrap_or}
-use Rattle.std.specs.Prelude.{if◌then◌else◌, ◌↔◌, IfErr, OnOk, Result}
+use Rattle.std.specs.Prelude.{if◌then◌else◌, IfErr, OnOk, Result}
 use Rattle.std.proofs.Common.{Ok, Err}
 use Rattle.aarp.specs.declared.packet.Packet.{Packet}
 use Rattle.std.proofs.lemmas.List.Elements.{All-drop, All-push, All-weaker, Contains-append_left, Contains-append_right}
 use Rattle.at_base.specs.declared.error.Error.{Error}
-use Rattle.at_base.specs.declared.error.Error.TheVariants.{Full}
 use Rattle.cable_model.proofs.Counting.{At, contained_at, each_at, each-append, each_map, filter_at, map_at}
 use Rattle.cable_model.proofs.Finds.{contains_at}
 use Rattle.cable_model.specs.Outcomes.{heard_by}
@@ -25,8 +24,7 @@ use Rattle.station.specs.Members.{EitherHears}
 use Rattle.station.specs.declared.member.Member.{Member}
 use Rattle.station.specs.declared.member.Member.TheVariants.{Router, Node}
 use Rattle.live_cables.proofs.Heard.{heard_in}
-use Rattle.live_cables.specs.Living.{IsTakenBy, TakesIn, Wires, happened}
-use Rattle.live_cables.specs.Steps.{HasNoRoom}
+use Rattle.live_cables.specs.Living.{IsLossRefused, IsTakenBy, TakesIn, Wires, happened}
 use Rattle.live_node.specs.Living.{LivingNode, LiveHears as NodeHears, informed, is_waiting, routed, taught, told}
 use Rattle.rtmp.specs.Data.{routing_in, RoutingData}
 use Rattle.zip_zones.specs.Formats.{zones_in}
@@ -267,7 +265,7 @@ module _ (ms : List (Member Living LivingNode)) (k : ℕ) (old new : Wires) (sta
 
   pub take_received : (r : Result (Unit {0}) Error) → At ms k before → OnOk r (IsTakenBy old new stamp k HearsIt)
       → IfErr r (λ e. ((new ≡ old) × (after ≡ before))
-      ⊎ (TakesIn stamp k (ports_of before) HearsIt old new × ((e ≡ Full) ↔ HasNoRoom 1 new.cabling)))
+      ⊎ (TakesIn stamp k (ports_of before) HearsIt old new × IsLossRefused e old new))
       → AreReceived (happened old) (map got ms) → AreReceived (happened new) (map got (slice_set ms k after))
   take_received (Ok u) at ok err h = did at ok h
   take_received (Err e) at ok (inr x) h = did at (heard_in stamp k (ports_of before) HearsIt old new x.0) h

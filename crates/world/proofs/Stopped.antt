@@ -1,12 +1,12 @@
 -- The stations after a step that was refused.
-use Rattle.std.proofs.Common.{◌≡◌, ◌⊎◌, ◌↔◌, inl, inr, ℕ, zero, suc, List, [], ◌∷◌, Option, Some, slice_get, slice_set, refl, ap, ◌∙◌, subst}
+use Rattle.std.proofs.Common.{◌≡◌, ◌⊎◌, inl, inr, ℕ, zero, suc, List, [], ◌∷◌, Option, Some, slice_get, slice_set, refl, ap, ◌∙◌, subst}
 use Rattle.std.specs.Prelude.{Err, IfErr, IsOkUnless, Ok, Result}
 use Rattle.std.proofs.lemmas.Result.{IfErr-weaker}
 use Rattle.at_base.specs.declared.error.Error.{Error}
 use Rattle.at_base.specs.declared.error.Error.TheVariants.{Full, Memory}
 use Rattle.cable_model.specs.Logs.{pending_on}
 use Rattle.cable_model.specs.Outcomes.{IsLeast}
-use Rattle.live_cables.specs.Living.{TakesIn, Wires}
+use Rattle.live_cables.specs.Living.{IsLossRefused, TakesIn, Wires}
 use Rattle.live_cables.specs.Steps.{HasNoRoom}
 use Rattle.live_node.specs.Living.{LivingNode, LiveHears as NodeHears}
 use Rattle.live_router.specs.Living.{Living, LiveHears as RouterHears}
@@ -39,9 +39,9 @@ module _ (ms : List (Member Living LivingNode)) (k stamp : ℕ) (old new : Wires
   abbrev TakesOrStays : Error → Type 0
   TakesOrStays e =
       ((slice_set ms k after ≡ ms) × (new ≡ old))
-      ⊎ (IsTaker stamp k ms (slice_set ms k after) old new × ((e ≡ Full) ↔ HasNoRoom 1 new.cabling))
+      ⊎ (IsTaker stamp k ms (slice_set ms k after) old new × IsLossRefused e old new)
 
-  takes_or_stays : (e : Error) → ((new ≡ old) × (after ≡ before)) ⊎ (TakesIt × ((e ≡ Full) ↔ HasNoRoom 1 new.cabling)) → TakesOrStays e
+  takes_or_stays : (e : Error) → ((new ≡ old) × (after ≡ before)) ⊎ (TakesIt × IsLossRefused e old new) → TakesOrStays e
   takes_or_stays e (inl same) = inl (ap (slice_set ms k) same.1 ∙ set_itself ms k before at, same.0)
   takes_or_stays e (inr x) =
       inr (
@@ -56,14 +56,14 @@ module _ (ms : List (Member Living LivingNode)) (k stamp : ℕ) (old new : Wires
       )
 
   pub take_stopped : {U : Type 0} (r : Result U Error)
-      → IfErr r (λ e. ((new ≡ old) × (after ≡ before)) ⊎ (TakesIt × ((e ≡ Full) ↔ HasNoRoom 1 new.cabling))) → IfErr r TakesOrStays
+      → IfErr r (λ e. ((new ≡ old) × (after ≡ before)) ⊎ (TakesIt × IsLossRefused e old new)) → IfErr r TakesOrStays
   take_stopped r x = IfErr-weaker r _ _ takes_or_stays x
 
 -- The taking of the first frame was refused.
 pub first_stopped : (stamp station : ℕ) (ms now : List (Member Living LivingNode)) (old new : Wires) (e : Error)
     → IsLeast (pending_on old.cabling) stamp station → (HasNoRoom 1285 old.cabling → e ≡ Full)
     → (e ≡ Full → HasNoRoom 1285 new.cabling)
-    → ((now ≡ ms) × (new ≡ old)) ⊎ (IsTaker stamp station ms now old new × ((e ≡ Full) ↔ HasNoRoom 1 new.cabling))
+    → ((now ≡ ms) × (new ≡ old)) ⊎ (IsTaker stamp station ms now old new × IsLossRefused e old new)
     → MayTake e ms now old new
 first_stopped stamp station ms now old new e least room full (inl same) =
     inl (same.0, same.1, (λ is. subst (λ (w : Wires). HasNoRoom 1285 w.cabling) same.1 (full is), room))

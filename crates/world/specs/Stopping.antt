@@ -6,7 +6,7 @@ use Rattle.at_base.specs.declared.error.Error.TheVariants.{Full, Memory}
 use Rattle.internet_file.specs.Files.{Planned}
 use Rattle.internet_file.specs.declared.action.Action.{Action}
 use Rattle.internet_file.specs.declared.action.Do.{Do}
-use Rattle.live_cables.specs.Living.{GivesInPart, PassesInPart, Wires}
+use Rattle.live_cables.specs.Living.{GivesInPart, IsLossRefused, PassesInPart, Wires}
 use Rattle.live_cables.specs.Steps.{HasNoRoom, loses_by}
 use Rattle.live_node.specs.Living.{LivingNode}
 use Rattle.live_node.specs.Ticking.{LiveTicks as NodeTicks}
@@ -119,7 +119,7 @@ pub record AreActing (e : Error) (plan : Planned) (stations : List (Member Livin
 abbrev pub MayTake : Error → List (Member Living LivingNode) → List (Member Living LivingNode) → Wires → Wires → Type 0
 MayTake e stations now old new =
     ((now ≡ stations) × (new ≡ old) × ((e ≡ Full) ↔ HasNoRoom 1285 old.cabling))
-    ⊎ (IsTaken stations now old new × ((e ≡ Full) ↔ HasNoRoom 1 new.cabling))
+    ⊎ (IsTaken stations now old new × IsLossRefused e old new)
 
 -- Frames were taken, fewer than `most`, and the taking of the next one was refused.
 pub record AreTaking (e : Error) (most : ℕ) (stations now : List (Member Living LivingNode)) (old new : Wires) : Type 0 where

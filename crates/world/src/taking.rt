@@ -5,7 +5,7 @@ ghost use Rattle.std.specs.Prelude.{IfErr, IfOk, OnErr, OnOk};
 ghost use Rattle.std.specs.List.{list_any};
 ghost use Rattle.cable_model.specs.Outcomes.{is_named};
 ghost use Rattle.cable_model.specs.Transcript.{one};
-ghost use Rattle.live_cables.specs.Living.{happened};
+ghost use Rattle.live_cables.specs.Living.{IsLossRefused, happened};
 ghost use Rattle.live_cables.specs.Steps.{HasNoRoom};
 ghost use Rattle.planned_stations.specs.Planning.{AreSeated, ports_of};
 ghost use Rattle.world.specs.Going.{Did, Ends, Goes, GoesOn};
@@ -38,7 +38,7 @@ fn take<T: RouteTable>(
     ensures stopped { IfErr result (λ e. ((stations.new.items ≡ stations.old.items)
         × (wires.new ≡ wires.old))
         ⊎ (IsTaker stamp station stations.old.items stations.new.items wires.old wires.new
-        × ((e ≡ Error.Full) ↔ HasNoRoom 1 wires.new.cabling))) }
+        × IsLossRefused e wires.old wires.new)) }
     ensures received { AreReceived (happened wires.old) (map got stations.old.items)
         → AreReceived (happened wires.new) (map got stations.new.items) }
     ensures not_pending { (result ≡ Err Error.NotPending) ↔ (list_any (is_named stamp station)

@@ -1,6 +1,7 @@
 use Rattle.std.proofs.Common.{IsTrue, subst, sym}
-use Rattle.std.proofs.lemmas.Result.{on_ok_weaker}
-use Rattle.live_cables.proofs.Losses.{all_between_gone, all_between_lost, first_between_lost, gone_none, none_between}
+use Rattle.std.proofs.lemmas.Result.{on_err_weaker, on_ok_weaker}
+use Rattle.live_cables.proofs.Losses.{all_between_gone, all_between_lost, first_between_due, first_between_lost, gone_none, none_between}
+use Rattle.live_cables.proofs.Losses.{rest_between_due}
 use Rattle.live_cables.specs.Steps.{are_gone, line_losses, loses_by}
 use Rattle.live_cables.proofs.losing.+lose_between.Goals as goal
 
@@ -26,3 +27,15 @@ returns-clause-gone t c =
     (all_between_gone (loses_by c.args.losing.now) c.args.cables.now c.lose_at.new.cables c.args.from c.args.end c.if-from-end.false
     c.requires c.lose_at.ensures.further c.lose_at.ensures.loses c.lose_between.new.cables c.in-Ok.ensures.gone c.lose_between.ensures.loses)
     c.lose_between.ensures.gone
+
+pub returns-in-Err-clause-due : goal.returns-in-Err-clause-due
+returns-in-Err-clause-due t c =
+    first_between_due (loses_by c.args.losing.now) c.args.cables.now c.lose_at.new.cables c.args.from c.args.end c.if-from-end.false
+    c.requires c.lose_at.ensures.further c.lose_at.ensures.loses c.in-Err.ensures.due
+
+pub returns-clause-due : goal.returns-clause-due
+returns-clause-due t c =
+    on_err_weaker c.lose_between.result
+    (rest_between_due (loses_by c.args.losing.now) c.args.cables.now c.lose_at.new.cables c.args.from c.args.end c.if-from-end.false
+    c.requires c.lose_at.ensures.further c.lose_at.ensures.loses c.lose_between.new.cables)
+    c.lose_between.ensures.due

@@ -1,4 +1,4 @@
-use Rattle.std.proofs.Common.{◌≡◌, IsTrue, OnOk, drop, length, take, sym, subst, ap, ◌∙◌}
+use Rattle.std.proofs.Common.{◌≡◌, IsTrue, OnErr, OnOk, false, drop, length, take, sym, subst, ap, ◌∙◌}
 use Rattle.std.proofs.Math.Seq.{take-length}
 use Rattle.cable_model.specs.Logs.{transcript}
 use Rattle.live_cables.proofs.Losses.{gone_none, nothing_lost, stamps_are}
@@ -27,3 +27,7 @@ returns-clause-loses c = subst (λ ss. Loses ss c.args.cables.now c.lose_between
 pub returns-clause-gone : goal.returns-clause-gone
 returns-clause-gone c =
     subst (λ ss. OnOk c.lose_between.result (IsTrue (are_gone ss c.lose_between.new.cables))) (found c) c.lose_between.ensures.gone
+
+pub returns-clause-due : goal.returns-clause-due
+returns-clause-due c =
+    subst (λ ss. OnErr c.lose_between.result (are_gone ss c.lose_between.new.cables ≡ false)) (found c) c.lose_between.ensures.due

@@ -1,7 +1,7 @@
 use Rattle.std.proofs.Common.{inl, inr, refl, sym, ◌∙◌, length}
 use Rattle.std.proofs.lemmas.Bool.{eqb-true}
 use Rattle.std.proofs.lemmas.Result.{on_ok_weaker}
-use Rattle.live_cables.proofs.Calls.{if_refused, midst_put, on_ok, plays_midst, plays_to, plays_done}
+use Rattle.live_cables.proofs.Calls.{due_now, if_refused_due, midst_put, on_ok, plays_midst, plays_to, plays_done}
 use Rattle.live_cables.proofs.Exact.{gives_out}
 use Rattle.live_cables.proofs.Idle.{done_none, gives_none, plays_none}
 use Rattle.live_cables.proofs.Parts.{sends_now}
@@ -89,8 +89,9 @@ returns-in-Err-clause-part c =
 pub returns-clause-part : goal.returns-clause-part
 returns-clause-part c =
     rw (← c.self.view_is)
-    (if_refused c.lose_from.result _ c.lose_from.ensures.full c.lose_from.ensures.memory c.lose_from.ensures.refused
-    (λ e full. inr (
+    (if_refused_due c.lose_from.result _ c.lose_from.ensures.full c.lose_from.ensures.memory c.lose_from.ensures.refused
+    c.lose_from.ensures.due
+    (λ e full due. inr (
       gives_out (wires c.self.inside.cables c.self.inside.near c.self.inside.losing.items)
           (wires c.lose_from.new.cables c.give_all.new.near c.self.inside.losing.items) c.transcript-from.result.now c.deref.result.now
           (record { lines_are = c.transcript-from.ensures.value; losing_are = c.deref.ensures.value }) c.args.station _ c.face.new.self
@@ -100,5 +101,14 @@ returns-clause-part c =
           (stays_known c.self.inside.cables c.lose_from.new.cables c.self.inside.near c.face.new.self c.give_all.new.near
           c.self.inside.losing.items c.args.station c.face.ensures c.give_all.ensures.near),
       c.in-Ok.ensures.emptied,
-      full,
+      record {
+        full = full;
+        due =
+            due_now 0 _ (wires c.lose_from.new.cables c.give_all.new.near c.self.inside.losing.items) c.give_all.new.cables
+            c.transcript-from.result.now c.deref.result.now
+            (stays_known c.self.inside.cables c.lose_from.new.cables c.self.inside.near c.face.new.self c.give_all.new.near
+            c.self.inside.losing.items c.args.station c.face.ensures c.give_all.ensures.near)
+            (midst_put _ c.self.inside.cables c.give_all.new.cables c.give_all.ensures.puts) c.transcript-from.ensures.value
+            c.deref.ensures.value c.lose_from.ensures.loses due;
+      },
     )))

@@ -1,4 +1,4 @@
-use Rattle.std.proofs.Common.{◌≡◌, ◌≤◌, Err, List, length, refl, ap, sym, ◌∙◌, slice_get, subst, take, inl, inr}
+use Rattle.std.proofs.Common.{◌≡◌, ◌≤◌, ◌<◌, ℕ, Err, List, length, refl, ap, sym, ◌∙◌, slice_get, subst, take, inl, inr}
 use Rattle.std.specs.Prelude.{IsSome}
 use Rattle.aarp.specs.Mapping.{to_ask}
 use Rattle.at_base.specs.declared.address.Addr.{Addr}
@@ -7,7 +7,7 @@ use Rattle.cable_model.specs.declared.seat.Seat.{Seat}
 use Rattle.live_cables.specs.Finding.{held_at}
 use Rattle.live_cables.specs.Holding.{AreShed}
 use Rattle.live_cables.specs.Putting.{AreAsked}
-use Rattle.live_cables.proofs.Calls.{midst_put, plays_midst, plays_to, plays_done}
+use Rattle.live_cables.proofs.Calls.{due_now, midst_put, plays_midst, plays_to, plays_done}
 use Rattle.live_cables.proofs.Exact.{AreNow, gone_now, loses_now, passes_for}
 use Rattle.live_cables.proofs.NoRoom.{seat_there}
 use Rattle.live_cables.proofs.Parts.{asks_now}
@@ -155,10 +155,11 @@ returns-in-Err-clause-part c =
     rw (← c.self.view_is) (
       inl (
         part.0,
+        subst (λ (l : List Addr). part.0 < length l) (c.as_slice.ensures.value ∙ c.tick-asks.ensures.ask) part.1,
         asks_now near ticked c.self.inside.cables c.args.seat _ (take part.0 (to_ask (held_at near.maps c.args.seat)))
             c.ask_all.new.cables (ap (λ k. k.seats) c.tick-asks.ensures.waits ∙ c.self.invariant.0)
             (ap (λ k. k.own) c.tick-asks.ensures.waits)
-            (ap (take part.0) (c.as_slice.ensures.value ∙ c.tick-asks.ensures.ask)) part.1,
+            (ap (take part.0) (c.as_slice.ensures.value ∙ c.tick-asks.ensures.ask)) part.2,
       ),
       ap (λ k. k.maps) c.tick-asks.ensures.waits,
       stays_known c.self.inside.cables c.ask_all.new.cables near near ticked c.self.inside.losing.items near.station refl
@@ -175,10 +176,19 @@ returns-in-Err-lose_from-clause-part c =
         asks_now near ticked c.self.inside.cables c.args.seat _ (to_ask (held_at near.maps c.args.seat))
             c.ask_all.new.cables (ap (λ k. k.seats) c.tick-asks.ensures.waits ∙ c.self.invariant.0)
             (ap (λ k. k.own) c.tick-asks.ensures.waits) (c.as_slice.ensures.value ∙ c.tick-asks.ensures.ask) c.in-Ok.ensures.asked,
-        inl (loses_now (wires c.self.inside.cables near c.self.inside.losing.items)
-            (wires c.lose_from.new.cables ticked c.self.inside.losing.items) c.transcript-from.result.now c.deref.result.now
-            (record { lines_are = c.transcript-from.ensures.value; losing_are = c.deref.ensures.value }) c.ask_all.new.cables
-            c.lose_from.new.cables c.lose_from.ensures.loses),
+        inl (
+          loses_now (wires c.self.inside.cables near c.self.inside.losing.items)
+              (wires c.lose_from.new.cables ticked c.self.inside.losing.items) c.transcript-from.result.now c.deref.result.now
+              (record { lines_are = c.transcript-from.ensures.value; losing_are = c.deref.ensures.value }) c.ask_all.new.cables
+              c.lose_from.new.cables c.lose_from.ensures.loses,
+          due_now 0 (wires c.self.inside.cables near c.self.inside.losing.items)
+              (wires c.lose_from.new.cables ticked c.self.inside.losing.items) c.ask_all.new.cables c.transcript-from.result.now
+              c.deref.result.now
+              (stays_known c.self.inside.cables c.lose_from.new.cables near near ticked c.self.inside.losing.items near.station refl
+              (knows_ticked near ticked c.args.seat c.tick-asks.ensures.waits))
+              (midst_put _ c.self.inside.cables c.ask_all.new.cables c.ask_all.ensures.puts) c.transcript-from.ensures.value
+              c.deref.ensures.value c.lose_from.ensures.loses c.in-Err-lose_from.ensures.due,
+        ),
       ),
       ap (λ k. k.maps) c.tick-asks.ensures.waits,
       stays_known c.self.inside.cables c.lose_from.new.cables near near ticked c.self.inside.losing.items near.station refl
@@ -193,10 +203,10 @@ returns-clause-part c =
     let new = wires c.shed_all.new.cables ticked c.self.inside.losing.items in
     let now : AreNow old c.transcript-from.result.now c.deref.result.now =
     record { lines_are = c.transcript-from.ensures.value; losing_are = c.deref.ensures.value } in
-    let part = c.shed_all.ensures.part in
     elim c.match-shed_all.branch [
       | in-Ok-shed_all w ↦ rw w.result-is tt
       | in-Err-shed_all w ↦
+          let part = w.in-Err-shed_all.ensures.part in
           rw (← c.self.view_is, w.result-is) (
             inr (
               c.ask_all.new.cables,
@@ -211,6 +221,8 @@ returns-clause-part c =
                 gone_now old new c.transcript-from.result.now c.deref.result.now now c.ask_all.new.cables c.lose_from.new.cables
                     c.in-Ok-lose_from.ensures.gone,
                 part.0,
+                subst (λ (l : List ℕ). part.0 < length l) (c.as_slice-2.ensures.value ∙ c.tick-asks.ensures.shed)
+                    part.2,
                 subst (λ l. AreShed (take part.0 l) c.lose_from.new.cables c.shed_all.new.cables)
                     (c.as_slice-2.ensures.value ∙ c.tick-asks.ensures.shed) part.1,
               ),

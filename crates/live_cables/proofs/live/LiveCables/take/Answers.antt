@@ -3,7 +3,7 @@ use Rattle.std.specs.List.{list_any}
 use Rattle.std.proofs.lemmas.Result.{on_ok_weaker}
 use Rattle.cable_model.specs.Logs.{pending_on}
 use Rattle.cable_model.specs.Outcomes.{is_named}
-use Rattle.live_cables.proofs.Calls.{if_refused, midst_taken, named_is, never_says, on_ok, plays_kept, plays_to, plays_done, taken_by}
+use Rattle.live_cables.proofs.Calls.{due_now, if_refused_due, midst_taken, named_is, never_says, on_ok, plays_kept, plays_to, plays_done, taken_by}
 use Rattle.live_cables.proofs.Exact.{takes_in}
 use Rattle.live_cables.proofs.Idle.{plays_none}
 use Rattle.live_cables.proofs.Knows.{knows_is}
@@ -99,8 +99,9 @@ returns-clause-stopped g c =
     && list_any (is_named c.args.stamp c.args.station) (pending_on w.cabling)) ≡ false) (sym c.self.view_is)
     (sym c.is_full_for.ensures ∙ c.if-is_full_for.false) in
     rw (← c.self.view_is)
-    (if_refused c.lose_from.result _ c.lose_from.ensures.full c.lose_from.ensures.memory c.lose_from.ensures.refused
-    (λ e full. inr (
+    (if_refused_due c.lose_from.result _ c.lose_from.ensures.full c.lose_from.ensures.memory c.lose_from.ensures.refused
+    c.lose_from.ensures.due
+    (λ e full due. inr (
       takes_in (wires c.self.inside.cables c.self.inside.near c.self.inside.losing.items)
           (wires c.lose_from.new.cables c.take.new.near c.self.inside.losing.items) c.transcript-from.result.now c.deref.result.now
           (record { lines_are = c.transcript-from.ensures.value; losing_are = c.deref.ensures.value }) c.args.stamp c.args.station _ _
@@ -111,7 +112,16 @@ returns-clause-stopped g c =
           c.self.invariant.0) c.in-Ok.ensures.taken c.lose_from.ensures.loses refl
           (stays_taken c.args.stamp c.args.station _ _ c.self.inside.cables c.take.new.cables c.lose_from.new.cables c.self.inside.near
           c.face.new.self c.take.new.near c.self.inside.losing.items c.args.station c.face.ensures c.in-Ok.ensures.taken),
-      full,
+      record {
+        full = full;
+        due =
+            due_now 1 _ (wires c.lose_from.new.cables c.take.new.near c.self.inside.losing.items) c.take.new.cables
+            c.transcript-from.result.now c.deref.result.now
+            (stays_taken c.args.stamp c.args.station _ _ c.self.inside.cables c.take.new.cables c.lose_from.new.cables c.self.inside.near
+            c.face.new.self c.take.new.near c.self.inside.losing.items c.args.station c.face.ensures c.in-Ok.ensures.taken)
+            (midst_taken _ _ _ c.args.stamp c.args.station _ c.recall_once.ensures c.in-Ok.ensures.takes)
+            c.transcript-from.ensures.value c.deref.ensures.value c.lose_from.ensures.loses due;
+      },
     )))
 
 pub returns-clause-not_pending : goal.returns-clause-not_pending
