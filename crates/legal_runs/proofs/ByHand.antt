@@ -1,4 +1,4 @@
--- Datagrams and pairs of the examples.
+-- Datagrams, pairs and counts of the examples.
 use Rattle.std.proofs.Common.{◌≡◌, ◌≢◌, ◌<◌, ◌≤◌, ℕ, IsTrue, List, Option, inl, length, nat_lt, refl, arith}
 use Rattle.std.specs.List.{list_all}
 use Rattle.at_base.specs.Spelling.{bytes_of}
@@ -15,6 +15,23 @@ use Rattle.legal_runs.specs.Answers.{IsBody}
 -- A number above 0 isn't 0.
 pub not_zero : (n : ℕ) → 1 ≤ n → n ≢ 0
 not_zero n low = λ z. absurd (omega (arith, low, z))
+
+-- Counts that differ.
+pub zero_one : ◌≡◌ {A = ℕ} 0 1 → ⊥
+zero_one e = cc
+
+pub one_zero : ◌≡◌ {A = ℕ} 1 0 → ⊥
+one_zero e = cc
+
+pub one_two : ◌≡◌ {A = ℕ} 1 2 → ⊥
+one_two e = cc
+
+pub two_one : ◌≡◌ {A = ℕ} 2 1 → ⊥
+two_one e = cc
+
+-- More hops than a datagram has.
+pub too_many : 15 ≤ 14 → ⊥
+too_many e = absurd (omega (arith, e))
 
 -- A header whose numbers are all below 256 fits its fields.
 pub fitting : (h : Header) → h.target.net < 256 → h.target.node < 256 → h.source.net < 256 → h.source.node < 256

@@ -1,31 +1,25 @@
 -- Transcripts that break the laws.
-use Rattle.std.proofs.Common.{◌≡◌, ◌≤◌, ℕ, [], Option, None, Some, false, refl, sym, arith, true≢false}
+use Rattle.std.proofs.Common.{◌≡◌, ◌≤◌, ◌∙◌, ℕ, List, [], ◌∷◌, Option, length, None, Some, false, refl, sym, arith, true≢false}
 use Rattle.audit.specs.Example.{addr, hardware, three_cables}
+use Rattle.table_image.specs.Internet.{Internet}
 use Rattle.audit.specs.Routing.{Here, On}
 use Rattle.ddp.specs.Datagram.{datagram}
 use Rattle.at_base.specs.Packets.{address, text}
 use Rattle.nbp.specs.Packets.{packet, tuple}
-use Rattle.legal_runs.specs.Carriage.{AreByHand, AreCarried, AreTakenThere, none_yet}
-use Rattle.legal_runs.specs.Counts.{HasHopsLeft, IsConserved}
+use Rattle.legal_runs.specs.Carriage.{AreByHand, AreCarried, AreTakenThere, IsChain, none_yet}
+use Rattle.legal_runs.specs.Counts.{HasHopsLeft, IsConserved, reached}
 use Rattle.legal_runs.specs.Example.{echo_request}
 use Rattle.legal_runs.specs.Illegal.{asked_alone, dropped_too, gone, looked_elsewhere, looked_nowhere, many_hops, out_of_hops}
 use Rattle.legal_runs.specs.Illegal.{passed_back, passed_from_all, put_from_afar, reached_alone, reached_elsewhere, reached_from_afar}
 use Rattle.legal_runs.specs.Illegal.{dropped_on_its_way, dropped_twice, reached_unlisted, same_hops, taken_from_afar}
-use Rattle.legal_runs.specs.Illegal.{taken_twice, to_all, to_unlisted}
+use Rattle.legal_runs.specs.Illegal.{taken_twice, taken_unput, to_all, to_unlisted}
+use Rattle.legal_runs.specs.Illegal.{forward_elsewhere}
+use Rattle.legal_runs.specs.IllegalLosses.{forward_lost_elsewhere}
 use Rattle.legal_runs.specs.LookupExample.{blue_request}
 use Rattle.legal_runs.specs.Lookups.{IsLookedUp}
 use Rattle.legal_runs.specs.LossCounts.{IsConservedWithLosses, IsLookedUpWithLosses}
 use Rattle.legal_runs.specs.Requests.{key_in, request, zone_of}
-use Rattle.legal_runs.proofs.ByHand.{frame, not_zero, pair}
-
-zero_one : ◌≡◌ {A = ℕ} 0 1 → ⊥
-zero_one e = cc
-
-one_zero : ◌≡◌ {A = ℕ} 1 0 → ⊥
-one_zero e = cc
-
-one_two : ◌≡◌ {A = ℕ} 1 2 → ⊥
-one_two e = cc
+use Rattle.legal_runs.proofs.ByHand.{frame, not_zero, one_two, one_zero, pair, too_many, zero_one}
 
 -- ---- Conservation, without losses and with them
 
@@ -41,8 +35,8 @@ plain_dropped_too law = one_zero (law.listed (echo_request 0) 2 refl).kept
 pub plain_gone : IsConserved three_cables gone → ⊥
 plain_gone law = one_zero (law.unlisted to_unlisted refl (not_zero 50 (omega arith))).counted
 
-pub plain_unlisted : IsConserved three_cables reached_unlisted → ⊥
-plain_unlisted law = one_zero ((law.unlisted to_unlisted refl (not_zero 50 (omega arith))).nowhere 0)
+pub plain_unlisted : (c : ℕ) → reached to_unlisted c (reached_unlisted c) ≡ 1 → IsConserved three_cables (reached_unlisted c) → ⊥
+plain_unlisted c once law = one_zero (sym once ∙ (law.unlisted to_unlisted refl (not_zero 50 (omega arith))).nowhere c)
 
 pub plain_out_of_hops : IsConserved three_cables out_of_hops → ⊥
 plain_out_of_hops law = one_zero law.no_hop_limit
@@ -71,8 +65,9 @@ lossy_dropped_too law = one_zero (law.listed (echo_request 0) 2 refl).kept
 pub lossy_gone : IsConservedWithLosses three_cables gone → ⊥
 lossy_gone law = one_zero (law.unlisted to_unlisted refl (not_zero 50 (omega arith))).counted
 
-pub lossy_unlisted : IsConservedWithLosses three_cables reached_unlisted → ⊥
-lossy_unlisted law = one_zero ((law.unlisted to_unlisted refl (not_zero 50 (omega arith))).nowhere 0)
+pub lossy_unlisted : (c : ℕ) → reached to_unlisted c (reached_unlisted c) ≡ 1 → IsConservedWithLosses three_cables (reached_unlisted c)
+    → ⊥
+lossy_unlisted c once law = one_zero (sym once ∙ (law.unlisted to_unlisted refl (not_zero 50 (omega arith))).nowhere c)
 
 pub lossy_out_of_hops : IsConservedWithLosses three_cables out_of_hops → ⊥
 lossy_out_of_hops law = one_zero law.no_hop_limit
@@ -94,9 +89,6 @@ lossy_from_all law = one_two (law.listed (to_all 0) 0 refl).counted
 pub out_of_many_hops : HasHopsLeft three_cables many_hops → ⊥
 out_of_many_hops law =
     too_many (law (pair (frame 0 0 2 (hardware 1) (echo_request 56)) 0 0 1 None) 2 (0, omega arith, refl) refl refl)
-  where
-    too_many : 15 ≤ 14 → ⊥
-    too_many e = absurd (omega (arith, e))
 
 pub uncarried_from_afar : AreCarried three_cables none_yet reached_from_afar → ⊥
 uncarried_from_afar law = on_here law.1.1.1.0.0
@@ -110,8 +102,15 @@ unput_from_afar law = true≢false (sym law.1.0.0)
 pub uncarried_hops : AreCarried three_cables none_yet same_hops → ⊥
 uncarried_hops law = zero_one law.1.1.1.0.1
 
+pub at_most_fifteen : (i : Internet) (n cable : ℕ) (chain : List ℕ) → IsChain i n cable chain → length chain ≤ 15
+at_most_fifteen i n cable [] none = omega arith
+at_most_fifteen i n cable (r ∷ rest) walk = walk.1
+
 pub untaken_from_afar : AreTakenThere three_cables [] taken_from_afar → ⊥
 untaken_from_afar law = true≢false (sym law.0)
+
+pub untaken_unput : AreTakenThere three_cables [] taken_unput → ⊥
+untaken_unput law = law.0
 
 pub unhanded : AreByHand three_cables false passed_back → ⊥
 unhanded law = other law.1.0
@@ -129,6 +128,10 @@ pub plain_looked_elsewhere : IsLookedUp three_cables looked_elsewhere (key_in (r
 unfolding request zone_of datagram packet tuple address text
 plain_looked_elsewhere law = one_zero (law.others 0 refl)
 
+pub plain_forward_elsewhere : IsLookedUp three_cables forward_elsewhere (key_in (request blue_request)) → ⊥
+unfolding request zone_of datagram packet tuple address text
+plain_forward_elsewhere law = one_zero (law.others 0 refl)
+
 pub plain_looked_nowhere : IsLookedUp three_cables looked_nowhere (key_in (request blue_request)) → ⊥
 unfolding request zone_of datagram packet tuple address text
 plain_looked_nowhere law = zero_one (law.listed 1 refl)
@@ -140,6 +143,14 @@ lossy_asked_alone law = one_zero law.asked_is
 pub lossy_looked_elsewhere : IsLookedUpWithLosses three_cables looked_elsewhere (key_in (request blue_request)) → ⊥
 unfolding request zone_of datagram packet tuple address text
 lossy_looked_elsewhere law = one_zero (law.others 0 refl)
+
+pub lossy_forward_elsewhere : IsLookedUpWithLosses three_cables forward_elsewhere (key_in (request blue_request)) → ⊥
+unfolding request zone_of datagram packet tuple address text
+lossy_forward_elsewhere law = one_zero (law.others 0 refl)
+
+pub lossy_forward_lost_elsewhere : IsLookedUpWithLosses three_cables forward_lost_elsewhere (key_in (request blue_request)) → ⊥
+unfolding request zone_of datagram packet tuple address text
+lossy_forward_lost_elsewhere law = one_zero (law.others 0 refl)
 
 pub lossy_looked_nowhere : IsLookedUpWithLosses three_cables looked_nowhere (key_in (request blue_request)) → ⊥
 unfolding request zone_of datagram packet tuple address text

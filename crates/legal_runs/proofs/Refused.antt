@@ -37,8 +37,8 @@ not_dropped_too legal = lossy_dropped_too (conserved_with_losses three_cables dr
 pub not_gone : IsLegalWithLosses three_cables gone → ⊥
 not_gone legal = lossy_gone (conserved_with_losses three_cables gone example_passes legal)
 
-pub not_reached_unlisted : IsLegalWithLosses three_cables reached_unlisted → ⊥
-not_reached_unlisted legal = lossy_unlisted (conserved_with_losses three_cables reached_unlisted example_passes legal)
+pub not_reached_unlisted : IsLegalWithLosses three_cables (reached_unlisted 0) → ⊥
+not_reached_unlisted legal = lossy_unlisted 0 refl (conserved_with_losses three_cables (reached_unlisted 0) example_passes legal)
 
 pub not_out_of_hops : IsLegalWithLosses three_cables out_of_hops → ⊥
 not_out_of_hops legal = lossy_out_of_hops (conserved_with_losses three_cables out_of_hops example_passes legal)

@@ -6,7 +6,7 @@ use Rattle.station.specs.declared.heard.Kind.TheVariants.{Ddp}
 use Rattle.cable_model.specs.Transcript.{Dropped, Entry, Sent, Put, Took, Reached}
 use Rattle.legal_runs.specs.Example.{echo_request, framed, plain}
 use Rattle.at_base.specs.Multicast.{all_hw}
-use Rattle.legal_runs.specs.LookupExample.{blue_lookup, blue_request, to_blue}
+use Rattle.legal_runs.specs.LookupExample.{blue, blue_lookup, blue_request, to_blue}
 
 -- A datagram that nobody sent reached a cable.
 abbrev pub reached_alone : List Entry
@@ -41,9 +41,9 @@ to_unlisted = plain 0 50 9
 abbrev pub gone : List Entry
 gone = Sent 2 to_unlisted ∷ framed 0 0 2 1 to_unlisted ∷ Took 0 0 ∷ []
 
--- A datagram to an unlisted network is under way and reached a cable.
-abbrev pub reached_unlisted : List Entry
-reached_unlisted = Sent 2 to_unlisted ∷ framed 0 0 2 1 to_unlisted ∷ Reached 0 2 how.Station to_unlisted ∷ []
+-- A datagram to an unlisted network is under way and reached this cable.
+abbrev pub reached_unlisted : ℕ → List Entry
+reached_unlisted cable = Sent 2 to_unlisted ∷ framed 0 0 2 1 to_unlisted ∷ Reached cable 2 how.Station to_unlisted ∷ []
 
 -- A datagram to an unlisted network is dropped because of its hop count.
 abbrev pub out_of_hops : List Entry
@@ -61,6 +61,10 @@ dropped_on_its_way = Sent 2 to_unlisted ∷ framed 0 0 2 1 to_unlisted ∷ Dropp
 -- The second router takes a frame on a cable that it isn't on.
 abbrev pub taken_from_afar : List Entry
 taken_from_afar = Sent 2 (echo_request 0) ∷ framed 0 0 2 1 (echo_request 0) ∷ Took 0 1 ∷ []
+
+-- The first router takes a frame that was never put.
+abbrev pub taken_unput : List Entry
+taken_unput = Took 0 0 ∷ []
 
 -- The first router takes one frame twice.
 abbrev pub taken_twice : List Entry
@@ -92,6 +96,14 @@ abbrev pub looked_elsewhere : List Entry
 looked_elsewhere =
     Sent 2 blue_request ∷ Reached 0 2 how.Station blue_request ∷ framed 0 0 2 1 blue_request
     ∷ Took 0 0 ∷ Sent 0 (blue_lookup 10) ∷ to_blue 1 0 0 (blue_lookup 10) ∷ []
+
+-- A forward request from 20.2 socket 2 to any router of network 10, whose cable doesn't list the zone.
+abbrev pub red_forward : List ℕ
+red_forward = 0 ∷ 29 ∷ 0 ∷ 0 ∷ 0 ∷ 10 ∷ 0 ∷ 20 ∷ 0 ∷ 2 ∷ 2 ∷ 2 ∷ 2 ∷ blue 65
+
+-- A forward request for a cable that doesn't list the zone is under way.
+abbrev pub forward_elsewhere : List Entry
+forward_elsewhere = Sent 1 red_forward ∷ framed 0 1 1 2 red_forward ∷ []
 
 -- A request for names is neither taken nor still to be taken.
 abbrev pub asked_alone : List Entry

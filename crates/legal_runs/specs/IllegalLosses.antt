@@ -2,6 +2,7 @@
 use Rattle.std.specs.Prelude.{List, [], ◌∷◌, ◌++◌, take}
 use Rattle.cable_model.specs.Transcript.{Entry, Lost, Sent, Took}
 use Rattle.legal_runs.specs.Example.{echo, echo_request, framed}
+use Rattle.legal_runs.specs.Illegal.{forward_elsewhere}
 
 -- A frame is lost twice.
 abbrev pub lost_twice : List Entry
@@ -14,6 +15,10 @@ lost_after = take 4 echo ++ Lost 0 ∷ []
 -- A frame is lost that was never put.
 abbrev pub lost_unknown : List Entry
 lost_unknown = take 2 echo ++ Lost 1 ∷ []
+
+-- A forward request for a cable that doesn't list the zone was lost.
+abbrev pub forward_lost_elsewhere : List Entry
+forward_lost_elsewhere = forward_elsewhere ++ Lost 0 ∷ []
 
 -- A frame is taken after it was lost.
 abbrev pub taken_after : List Entry

@@ -1,22 +1,23 @@
 //! Laws of legal transcripts of an internet that passes the audit, for use by other crates. The
 //! functions do nothing: each law is the function's ensures clause.
 
-ghost use Rattle.std.specs.Prelude.{◌≡◌, [], List, None, false, true, ℕ};
+ghost use Rattle.std.specs.Prelude.{◌≡◌, ◌≤◌, [], List, None, false, length, true, ℕ};
 ghost use Rattle.table_image.specs.Internet.{Internet};
 ghost use Rattle.audit.specs.Example.{three_cables};
 ghost use Rattle.audit.specs.Rules.{Passes};
 ghost use Rattle.cable_model.specs.Transcript.{Entry};
-ghost use Rattle.legal_runs.specs.Carriage.{AreByHand, AreCarried, AreTakenThere, none_yet};
+ghost use Rattle.legal_runs.specs.Carriage.{AreByHand, AreCarried, AreTakenThere, IsChain, none_yet};
 ghost use Rattle.legal_runs.specs.Counts.{HasHopsLeft, IsConserved, reached, sent, under_way};
 ghost use Rattle.legal_runs.specs.Example.{echo, echo_reply, echo_request};
 ghost use Rattle.legal_runs.specs.Example.{to_everybody, to_nobody, to_nowhere};
 ghost use Rattle.legal_runs.specs.Illegal.{asked_alone, dropped_on_its_way, dropped_too};
-ghost use Rattle.legal_runs.specs.Illegal.{dropped_twice, gone, looked_elsewhere, taken_from_afar};
+ghost use Rattle.legal_runs.specs.Illegal.{dropped_twice, forward_elsewhere, gone};
+ghost use Rattle.legal_runs.specs.Illegal.{looked_elsewhere, taken_from_afar};
 ghost use Rattle.legal_runs.specs.Illegal.{looked_nowhere, many_hops, out_of_hops, passed_back};
 ghost use Rattle.legal_runs.specs.Illegal.{passed_from_all};
 ghost use Rattle.legal_runs.specs.Illegal.{put_from_afar, reached_alone, reached_elsewhere};
 ghost use Rattle.legal_runs.specs.Illegal.{reached_from_afar, reached_unlisted, same_hops};
-ghost use Rattle.legal_runs.specs.Illegal.{taken_twice};
+ghost use Rattle.legal_runs.specs.Illegal.{taken_twice, taken_unput};
 ghost use Rattle.legal_runs.specs.Legal.{IsLegal};
 ghost use Rattle.legal_runs.specs.LookupExample.{blue_names, blue_request, blue_to};
 ghost use Rattle.legal_runs.specs.Lookups as spec;
@@ -117,7 +118,7 @@ pub fn words_exclude()
     ensures heard { ¬ IsLegal three_cables passed_from_all }
     ensures handed { ¬ IsLegal three_cables passed_back }
     ensures hops { (¬ IsLegal three_cables same_hops) × (¬ IsLegal three_cables many_hops) }
-    ensures unlisted { (¬ IsLegal three_cables gone) × (¬ IsLegal three_cables reached_unlisted)
+    ensures unlisted { (¬ IsLegal three_cables gone) × (¬ IsLegal three_cables (reached_unlisted 0))
         × (¬ IsLegal three_cables out_of_hops) }
     ensures unlisted_twice { (¬ IsLegal three_cables dropped_twice)
         × (¬ IsLegal three_cables dropped_on_its_way) }
@@ -127,7 +128,8 @@ pub fn words_exclude()
 {}
 
 /// The laws themselves exclude what `words_exclude` names: each breaks the law that its part is
-/// about, whether or not it is legal.
+/// about, whether or not it is legal. They exclude, too, a chain of sixteen routers, a forward
+/// request for a cable that doesn't list the zone, and a frame that is taken and was never put.
 pub fn laws_exclude()
     ensures counted { (¬ IsConserved three_cables reached_alone)
         × (¬ IsConserved three_cables taken_twice)
@@ -135,7 +137,8 @@ pub fn laws_exclude()
     ensures elsewhere { ¬ IsConserved three_cables reached_elsewhere }
     ensures kept { ¬ IsConserved three_cables dropped_too }
     ensures unlisted { (¬ IsConserved three_cables gone)
-        × (¬ IsConserved three_cables reached_unlisted)
+        × (¬ IsConserved three_cables (reached_unlisted 0))
+        × (¬ IsConserved three_cables (reached_unlisted 2))
         × (¬ IsConserved three_cables out_of_hops) }
     ensures unlisted_twice { (¬ IsConserved three_cables dropped_twice)
         × (¬ IsConserved three_cables dropped_on_its_way) }
@@ -143,9 +146,13 @@ pub fn laws_exclude()
     ensures carried { (¬ AreCarried three_cables none_yet reached_from_afar)
         × (¬ AreCarried three_cables none_yet put_from_afar)
         × (¬ AreCarried three_cables none_yet same_hops) }
-    ensures taken { ¬ AreTakenThere three_cables [] taken_from_afar }
+    ensures fifteen { (i : Internet) (n : ℕ) (cable : ℕ) (chain : List ℕ) → IsChain i n cable chain
+        → length chain ≤ 15 }
+    ensures taken { (¬ AreTakenThere three_cables [] taken_from_afar)
+        × (¬ AreTakenThere three_cables [] taken_unput) }
     ensures handed { ¬ AreByHand three_cables false passed_back }
     ensures asked { ¬ IsLookedUp three_cables asked_alone (key_in (request blue_request)) }
     ensures looked { (¬ IsLookedUp three_cables looked_elsewhere (key_in (request blue_request)))
+        × (¬ IsLookedUp three_cables forward_elsewhere (key_in (request blue_request)))
         × (¬ IsLookedUp three_cables looked_nowhere (key_in (request blue_request))) }
 {}

@@ -10,12 +10,14 @@ ghost use Rattle.legal_runs.specs.Carriage.{AreByHand, AreCarried, AreTakenThere
 ghost use Rattle.legal_runs.specs.Counts.{HasHopsLeft, reached, sent, under_way};
 ghost use Rattle.legal_runs.specs.Example.{echo_request};
 ghost use Rattle.legal_runs.specs.Illegal.{asked_alone, dropped_on_its_way, dropped_too};
-ghost use Rattle.legal_runs.specs.Illegal.{dropped_twice, gone, looked_elsewhere, taken_from_afar};
+ghost use Rattle.legal_runs.specs.Illegal.{dropped_twice, forward_elsewhere, gone};
+ghost use Rattle.legal_runs.specs.Illegal.{looked_elsewhere, taken_from_afar};
 ghost use Rattle.legal_runs.specs.Illegal.{looked_nowhere, many_hops, out_of_hops, passed_back};
 ghost use Rattle.legal_runs.specs.Illegal.{passed_from_all};
 ghost use Rattle.legal_runs.specs.Illegal.{put_from_afar, reached_alone, reached_elsewhere};
 ghost use Rattle.legal_runs.specs.Illegal.{reached_from_afar, reached_unlisted, same_hops};
 ghost use Rattle.legal_runs.specs.Illegal.{taken_twice};
+ghost use Rattle.legal_runs.specs.IllegalLosses.{forward_lost_elsewhere};
 ghost use Rattle.legal_runs.specs.IllegalLosses.{lost_after, lost_twice, lost_unknown, stamp_falls};
 ghost use Rattle.legal_runs.specs.IllegalLosses.{stamp_twice, taken_after};
 ghost use Rattle.legal_runs.specs.Legal.{IsLegal};
@@ -121,7 +123,7 @@ pub fn words_exclude_with_losses()
     ensures heard { ¬ IsLegalWithLosses three_cables passed_from_all }
     ensures handed { ¬ IsLegalWithLosses three_cables passed_back }
     ensures hops { (¬ IsLegalWithLosses three_cables same_hops) × (¬ IsLegalWithLosses three_cables many_hops) }
-    ensures unlisted { (¬ IsLegalWithLosses three_cables gone) × (¬ IsLegalWithLosses three_cables reached_unlisted)
+    ensures unlisted { (¬ IsLegalWithLosses three_cables gone) × (¬ IsLegalWithLosses three_cables (reached_unlisted 0))
         × (¬ IsLegalWithLosses three_cables out_of_hops) }
     ensures unlisted_twice { (¬ IsLegalWithLosses three_cables dropped_twice)
         × (¬ IsLegalWithLosses three_cables dropped_on_its_way) }
@@ -138,13 +140,17 @@ pub fn laws_exclude_with_losses()
     ensures elsewhere { ¬ IsConservedWithLosses three_cables reached_elsewhere }
     ensures kept { ¬ IsConservedWithLosses three_cables dropped_too }
     ensures unlisted { (¬ IsConservedWithLosses three_cables gone)
-        × (¬ IsConservedWithLosses three_cables reached_unlisted)
+        × (¬ IsConservedWithLosses three_cables (reached_unlisted 0))
+        × (¬ IsConservedWithLosses three_cables (reached_unlisted 2))
         × (¬ IsConservedWithLosses three_cables out_of_hops) }
     ensures unlisted_twice { (¬ IsConservedWithLosses three_cables dropped_twice)
         × (¬ IsConservedWithLosses three_cables dropped_on_its_way) }
     ensures asked { ¬ IsLookedUpWithLosses three_cables asked_alone
         (key_in (request blue_request)) }
     ensures looked { (¬ IsLookedUpWithLosses three_cables looked_elsewhere
+        (key_in (request blue_request)))
+        × (¬ IsLookedUpWithLosses three_cables forward_elsewhere (key_in (request blue_request)))
+        × (¬ IsLookedUpWithLosses three_cables forward_lost_elsewhere
         (key_in (request blue_request)))
         × (¬ IsLookedUpWithLosses three_cables looked_nowhere (key_in (request blue_request))) }
 {}

@@ -1,6 +1,6 @@
 -- Transcripts that break the laws with resolution.
 use Rattle.std.proofs.Common.{◌≡◌, ◌≤◌, ℕ, Option, Some, None, List, [], ◌∷◌, ap, arith, refl, sym, subst, ◌∙◌, Contains}
-use Rattle.std.proofs.Common.{false, true≢false, zero, suc}
+use Rattle.std.proofs.Common.{◌++◌, false, take, true≢false, zero, suc}
 use Rattle.at_base.specs.Packets.{address, text}
 use Rattle.aarp.specs.declared.packet.Function.TheVariants.{Request, Response}
 use Rattle.aarp.specs.declared.packet.Packet.{Packet}
@@ -14,18 +14,20 @@ use Rattle.station.specs.Resolution.{packet_at}
 use Rattle.station.specs.declared.heard.Kind.TheVariants.{Aarp, Ddp}
 use Rattle.cable_model.specs.Holdings.{still_held}
 use Rattle.cable_model.specs.Pending.{Pair, pending}
-use Rattle.cable_model.specs.Transcript.{ArePutOnce, Entry, Holding}
+use Rattle.cable_model.specs.Transcript.{ArePutOnce, Entry, Holding, Lost}
 use Rattle.legal_runs.specs.Carriage.{AreByHand, AreTakenThere, none_yet}
+use Rattle.legal_runs.specs.Counts.{reached}
 use Rattle.legal_runs.specs.Example.{echo_request, plain as plain_to}
-use Rattle.legal_runs.specs.Illegal.{many_hops, to_unlisted}
+use Rattle.legal_runs.specs.Illegal.{forward_elsewhere, looked_elsewhere, many_hops, to_unlisted}
 use Rattle.legal_runs.specs.Requests.{request, zone_of}
 use Rattle.legal_runs.specs.Stations.{cable_seats}
-use Rattle.legal_runs.proofs.ByHand.{frame, not_zero, pair}
+use Rattle.legal_runs.proofs.ByHand.{frame, not_zero, one_two, one_zero, pair, too_many, two_one, zero_one}
 use Rattle.resolved_runs.specs.AskedFor.{AreAskedFor, AreHeard, AreHeardOrOnTheirWay, AreHeldOnce, Answered, Asks, Requested}
 use Rattle.resolved_runs.specs.Example.{asking, full_ring, packet_bytes, telling, unmapped}
 use Rattle.resolved_runs.specs.Excluded.{another_told, asked_by_another, asked_elsewhere, asked_for_another, asked_from_afar}
 use Rattle.resolved_runs.specs.Excluded.{asked_in_a_datagram, told_by_another}
 use Rattle.resolved_runs.specs.Lossless.{IsNothingGivenUp}
+use Rattle.resolved_runs.specs.Excluded.{forward_given_up_elsewhere, heard_as_packet, heard_by_another, held_for_nobody}
 use Rattle.resolved_runs.specs.Excluded.{blue_key, forward_held_and_put, forward_held_elsewhere, given_up_and_held}
 use Rattle.resolved_runs.specs.Excluded.{given_up_and_reached, heard_and_held, heard_by_all, held_and_dropped, held_and_elsewhere, held_twice}
 use Rattle.resolved_runs.specs.Excluded.{held_and_put, held_back, held_with_hops, not_forwarded, one_held, one_stamp, own_held}
@@ -39,21 +41,6 @@ use Rattle.resolved_runs.specs.ResolvedLaws.{HasHopsLeftResolved, IsConservedRes
 -- What the node holds for its router.
 abbrev holding : List ℕ → Holding
 holding bytes = record { stamp = 0; cable = 0; station = 2; next = addr 10 1; bytes = bytes }
-
-zero_one : ◌≡◌ {A = ℕ} 0 1 → ⊥
-zero_one e = cc
-
-one_zero : ◌≡◌ {A = ℕ} 1 0 → ⊥
-one_zero e = cc
-
-one_two : ◌≡◌ {A = ℕ} 1 2 → ⊥
-one_two e = cc
-
-two_one : ◌≡◌ {A = ℕ} 2 1 → ⊥
-two_one e = cc
-
-too_many : 15 ≤ 14 → ⊥
-too_many e = absurd (omega (arith, e))
 
 two_at_most : 2 ≤ 1 → ⊥
 two_at_most e = absurd (omega (arith, e))
@@ -81,8 +68,9 @@ not_held_and_dropped law = one_zero (law.listed (echo_request 0) 2 refl).kept
 pub not_unlisted_and_dropped : IsConservedResolved unmapped unlisted_and_dropped → ⊥
 not_unlisted_and_dropped law = one_two (law.unlisted to_unlisted refl (not_zero 50 (omega arith))).counted
 
-pub not_unlisted_and_reached : IsConservedResolved unmapped unlisted_and_reached → ⊥
-not_unlisted_and_reached law = one_zero ((law.unlisted to_unlisted refl (not_zero 50 (omega arith))).nowhere 0)
+pub not_unlisted_and_reached : (c : ℕ) → reached to_unlisted c (unlisted_and_reached c) ≡ 1
+    → IsConservedResolved unmapped (unlisted_and_reached c) → ⊥
+not_unlisted_and_reached c once law = one_zero (sym once ∙ (law.unlisted to_unlisted refl (not_zero 50 (omega arith))).nowhere c)
 
 pub not_out_of_hops : IsConservedResolved unmapped unlisted_out_of_hops → ⊥
 not_out_of_hops law = one_zero law.no_hop_limit
@@ -133,9 +121,21 @@ pub not_forward_held_and_put : IsLookedUpResolved unmapped forward_held_and_put 
 unfolding request zone_of datagram packet tuple address text
 not_forward_held_and_put law = two_one (law.listed 2 refl)
 
+pub not_looked_elsewhere : IsLookedUpResolved unmapped looked_elsewhere blue_key → ⊥
+unfolding request zone_of datagram packet tuple address text
+not_looked_elsewhere law = one_zero (law.others 0 refl)
+
+pub not_forward_elsewhere : IsLookedUpResolved unmapped forward_elsewhere blue_key → ⊥
+unfolding request zone_of datagram packet tuple address text
+not_forward_elsewhere law = one_zero (law.others 0 refl)
+
 pub not_forward_held_elsewhere : IsLookedUpResolved unmapped forward_held_elsewhere blue_key → ⊥
 unfolding request zone_of datagram packet tuple address text
 not_forward_held_elsewhere law = one_zero (law.others 0 refl)
+
+pub not_forward_given_up_elsewhere : IsLookedUpResolved unmapped forward_given_up_elsewhere blue_key → ⊥
+unfolding request zone_of datagram packet tuple address text
+not_forward_given_up_elsewhere law = one_zero (law.others 0 refl)
 
 -- ---- Heard
 
@@ -149,8 +149,30 @@ not_heard_and_held law = one_two (law (plain_to 0 10 1) 0 router_seat refl)
 pub not_heard_by_all : AreHeardOrOnTheirWay unmapped heard_by_all → ⊥
 not_heard_by_all law = one_zero (law (plain_to 0 10 1) 0 router_seat refl)
 
+pub not_on_its_way_to_all : AreHeardOrOnTheirWay unmapped (take 2 heard_by_all) → ⊥
+not_on_its_way_to_all law = one_zero (law (plain_to 0 10 1) 0 router_seat refl)
+
+pub not_heard_as_packet : AreHeardOrOnTheirWay unmapped heard_as_packet → ⊥
+not_heard_as_packet law = one_zero (law (plain_to 0 10 1) 0 router_seat refl)
+
+pub not_on_its_way_as_packet : AreHeardOrOnTheirWay unmapped (take 2 heard_as_packet) → ⊥
+not_on_its_way_as_packet law = one_zero (law (plain_to 0 10 1) 0 router_seat refl)
+
+pub not_held_for_nobody : AreHeardOrOnTheirWay unmapped held_for_nobody → ⊥
+not_held_for_nobody law = one_zero (law (plain_to 0 10 1) 0 router_seat refl)
+
+pub not_given_up_for_nobody : AreHeardOrOnTheirWay unmapped (held_for_nobody ++ Lost 0 ∷ []) → ⊥
+not_given_up_for_nobody law = one_zero (law (plain_to 0 10 1) 0 router_seat refl)
+
 pub not_at_rest : AreHeard unmapped own_held → ⊥
 not_at_rest law = one_zero (law refl (plain_to 0 10 1) 0 router_seat refl)
+
+-- The printer's seat.
+abbrev printer_seat : Seat
+printer_seat = record { station = 3; cable = 2; address = addr 30 5; hardware = hardware 6 }
+
+pub not_heard_by_another : AreHeard unmapped heard_by_another → ⊥
+not_heard_by_another law = one_zero (law refl (echo_request 0) 2 printer_seat refl)
 
 -- ---- Asked for
 

@@ -1,13 +1,14 @@
 -- Transcripts that break the laws of transcripts with resolution, each in one of their words.
 use Rattle.std.specs.Prelude.{ℕ, List, [], ◌∷◌, ◌++◌, take}
 use Rattle.at_base.specs.Multicast.{all_hw}
-use Rattle.station.specs.declared.heard.Kind.TheVariants.{Ddp}
+use Rattle.audit.specs.Example.{hardware}
+use Rattle.station.specs.declared.heard.Kind.TheVariants.{Aarp, Ddp}
 use Rattle.station.specs.declared.output.DropCause.TheVariants.{HopLimit, NoRoute}
 use Rattle.cable_model.specs.declared.entry.How.TheVariants as how
 use Rattle.cable_model.specs.Transcript.{Dropped, Entry, Lost, Put, Reached, Sent, Took}
 use Rattle.legal_runs.specs.Example.{echo_request, framed, plain}
-use Rattle.legal_runs.specs.Illegal.{to_unlisted}
-use Rattle.legal_runs.specs.LookupExample.{blue, blue_forward, blue_lookup, blue_request, to_blue}
+use Rattle.legal_runs.specs.Illegal.{red_forward, to_unlisted}
+use Rattle.legal_runs.specs.LookupExample.{blue_forward, blue_lookup, blue_request, to_blue}
 use Rattle.legal_runs.specs.Requests.{key_in, request}
 use Rattle.resolved_runs.specs.Example.{asking, held, packet_bytes, resolved_echo, telling}
 
@@ -49,9 +50,9 @@ unlisted_held = Sent 2 to_unlisted ∷ held 0 0 2 10 1 to_unlisted ∷ []
 abbrev pub unlisted_and_dropped : List Entry
 unlisted_and_dropped = unlisted_held ++ Dropped 0 NoRoute to_unlisted ∷ []
 
--- A datagram to an unlisted network that is held reached a cable.
-abbrev pub unlisted_and_reached : List Entry
-unlisted_and_reached = unlisted_held ++ Reached 0 2 how.Held to_unlisted ∷ []
+-- A datagram to an unlisted network that is held reached this cable.
+abbrev pub unlisted_and_reached : ℕ → List Entry
+unlisted_and_reached cable = unlisted_held ++ Reached cable 2 how.Held to_unlisted ∷ []
 
 -- A datagram was dropped because of its hop count.
 abbrev pub unlisted_out_of_hops : List Entry
@@ -107,13 +108,13 @@ not_forwarded =
 abbrev pub forward_held_and_put : List Entry
 forward_held_and_put = not_forwarded ++ Sent 0 blue_forward ∷ held 2 1 0 20 2 blue_forward ∷ framed 3 1 0 3 blue_forward ∷ []
 
--- A forward request from 20.2 socket 2 to any router of network 10, whose cable doesn't list the zone.
-abbrev pub red_forward : List ℕ
-red_forward = 0 ∷ 29 ∷ 0 ∷ 0 ∷ 0 ∷ 10 ∷ 0 ∷ 20 ∷ 0 ∷ 2 ∷ 2 ∷ 2 ∷ 2 ∷ blue 65
-
 -- A forward request is held for a cable that doesn't list its zone.
 abbrev pub forward_held_elsewhere : List Entry
 forward_held_elsewhere = Sent 1 red_forward ∷ held 0 1 1 20 1 red_forward ∷ []
+
+-- It is given up.
+abbrev pub forward_given_up_elsewhere : List Entry
+forward_given_up_elsewhere = forward_held_elsewhere ++ Lost 0 ∷ []
 
 -- ---- Asked for
 
@@ -170,3 +171,17 @@ abbrev pub heard_by_all : List Entry
 heard_by_all =
     Sent 2 (plain 0 10 1)
     ∷ Put (record { stamp = 0; cable = 0; sender = 2; to = all_hw; kind = Ddp; bytes = plain 0 10 1 }) ∷ Took 0 0 ∷ []
+
+-- The router takes the datagram in an AARP frame.
+abbrev pub heard_as_packet : List Entry
+heard_as_packet =
+    Sent 2 (plain 0 10 1)
+    ∷ Put (record { stamp = 0; cable = 0; sender = 2; to = hardware 1; kind = Aarp; bytes = plain 0 10 1 }) ∷ Took 0 0 ∷ []
+
+-- The node holds the datagram for an address that nobody has.
+abbrev pub held_for_nobody : List Entry
+held_for_nobody = Sent 2 (plain 0 10 1) ∷ held 0 0 2 10 9 (plain 0 10 1) ∷ []
+
+-- The router takes a datagram for the printer, and puts nothing.
+abbrev pub heard_by_another : List Entry
+heard_by_another = Sent 2 (echo_request 0) ∷ framed 0 0 2 1 (echo_request 0) ∷ Took 0 0 ∷ []

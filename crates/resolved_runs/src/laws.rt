@@ -6,12 +6,12 @@ ghost use Rattle.table_image.specs.Internet.{Internet};
 ghost use Rattle.audit.specs.Rules.{Passes};
 ghost use Rattle.cable_model.specs.Holdings.{still_held};
 ghost use Rattle.cable_model.specs.Pending.{Pair, pending};
-ghost use Rattle.cable_model.specs.Transcript.{ArePutOnce, Entry, count};
+ghost use Rattle.cable_model.specs.Transcript.{ArePutOnce, Entry, count, Lost};
 ghost use Rattle.legal_runs.specs.Carriage.{AreByHand, AreTakenThere, none_yet};
 ghost use Rattle.legal_runs.specs.Counts.{reached, sent, under_way};
 ghost use Rattle.legal_runs.specs.Example.{echo, echo_reply, echo_request, framed, to_nobody};
 ghost use Rattle.legal_runs.specs.Example.{plain as plain_to};
-ghost use Rattle.legal_runs.specs.Illegal.{many_hops};
+ghost use Rattle.legal_runs.specs.Illegal.{forward_elsewhere, looked_elsewhere, many_hops};
 ghost use Rattle.legal_runs.specs.Legs.{fate, leg};
 ghost use Rattle.legal_runs.specs.LossCounts.{lost};
 ghost use Rattle.legal_runs.specs.LossyRuns.{IsLegalWithLosses};
@@ -25,9 +25,12 @@ ghost use Rattle.resolved_runs.specs.Example.{resolved_to_nobody, ring_released,
 ghost use Rattle.resolved_runs.specs.Excluded.{another_told, asked_by_another, asked_elsewhere};
 ghost use Rattle.resolved_runs.specs.Excluded.{asked_for_another, asked_from_afar};
 ghost use Rattle.resolved_runs.specs.Excluded.{asked_in_a_datagram, blue_key, told_by_another};
-ghost use Rattle.resolved_runs.specs.Excluded.{forward_held_and_put, forward_held_elsewhere};
+ghost use Rattle.resolved_runs.specs.Excluded.{forward_given_up_elsewhere, forward_held_and_put};
+ghost use Rattle.resolved_runs.specs.Excluded.{forward_held_elsewhere};
 ghost use Rattle.resolved_runs.specs.Excluded.{given_up_and_held, given_up_and_reached};
-ghost use Rattle.resolved_runs.specs.Excluded.{heard_and_held, heard_by_all, held_and_dropped};
+ghost use Rattle.resolved_runs.specs.Excluded.{heard_and_held, heard_as_packet, heard_by_all};
+ghost use Rattle.resolved_runs.specs.Excluded.{heard_by_another, held_and_dropped};
+ghost use Rattle.resolved_runs.specs.Excluded.{held_for_nobody};
 ghost use Rattle.resolved_runs.specs.Excluded.{held_and_elsewhere, held_and_put, held_back};
 ghost use Rattle.resolved_runs.specs.Excluded.{held_with_hops, not_forwarded, one_held, one_stamp};
 ghost use Rattle.resolved_runs.specs.Excluded.{held_twice, own_held, released_from_afar};
@@ -215,19 +218,20 @@ pub fn they_are_legal_without_mistakes()
 {}
 
 /// Transcripts that break the laws with resolution, so that each part of these excludes something.
-/// They have a datagram that vanished; one that is held, and is in a frame, reached another cable or
-/// was dropped; one that was given up, and is held or reached its cable; one to an unlisted network
-/// that is held and was dropped, or reached a cable; one dropped because of its hop count, and one
-/// held with too many hops for the routers that remain; a cable reached, a request put, or one taken
-/// by a station that isn't on the cable; one released with another hop count than it was held with;
-/// one held on another cable than that of the walk's step; a request for names that is held and in a
-/// frame; a forward request that is missing, that is held and in a frame, or that is held for a
-/// cable that doesn't list the zone; two datagrams held with one stamp, one held twice, and one
-/// released twice; one that is held and isn't
-/// asked for, but another address is, or another station asks, or the request is a datagram, or the
-/// answer tells another address, or is another station's, or the request is on another cable; one
-/// given up of seventeen; one that was heard and is held, one heard in a frame to all, and one held
-/// where no frame is pending.
+/// They have a datagram that vanished; one that is held, and is in a frame, reached another cable
+/// or was dropped; one that was given up, and is held or reached its cable; one to an unlisted
+/// network that is held and was dropped, or reached a cable; one dropped because of its hop count,
+/// and one held with too many hops for the routers that remain; a cable reached, a request put, or
+/// one taken by a station that isn't on the cable; one released with another hop count than it was
+/// held with; one held on another cable than that of the walk's step; a request for names that is
+/// held and in a frame; a forward request that is missing, that is held and in a frame, or that is
+/// held, in a frame or given up for a cable that doesn't list the zone, and a lookup there; two
+/// datagrams held with one stamp, one held twice, and one released twice; one that is held and
+/// isn't asked for, but another address is, or another station asks, or the request is a datagram,
+/// or the answer tells another address, or is another station's, or the request is on another
+/// cable; one given up of seventeen; one that was heard and is held, one heard or on its way in a
+/// frame to all or in an AARP frame, one held or given up for an address that nobody has, one held
+/// where no frame is pending, and one that another station took.
 pub fn laws_exclude_with_resolution()
     ensures counted { (¬ IsConservedResolved unmapped vanished)
         × (¬ IsConservedResolved unmapped held_and_put)
@@ -236,7 +240,8 @@ pub fn laws_exclude_with_resolution()
     ensures elsewhere { ¬ IsConservedResolved unmapped held_and_elsewhere }
     ensures kept { ¬ IsConservedResolved unmapped held_and_dropped }
     ensures unlisted { (¬ IsConservedResolved unmapped unlisted_and_dropped)
-        × (¬ IsConservedResolved unmapped unlisted_and_reached)
+        × (¬ IsConservedResolved unmapped (unlisted_and_reached 0))
+        × (¬ IsConservedResolved unmapped (unlisted_and_reached 2))
         × (¬ IsConservedResolved unmapped unlisted_out_of_hops) }
     ensures hops { (¬ HasHopsLeftResolved unmapped many_hops)
         × (¬ HasHopsLeftResolved unmapped held_with_hops) }
@@ -248,7 +253,10 @@ pub fn laws_exclude_with_resolution()
     ensures requested { ¬ IsLookedUpResolved unmapped request_held_and_put blue_key }
     ensures looked { (¬ IsLookedUpResolved unmapped not_forwarded blue_key)
         × (¬ IsLookedUpResolved unmapped forward_held_and_put blue_key)
-        × (¬ IsLookedUpResolved unmapped forward_held_elsewhere blue_key) }
+        × (¬ IsLookedUpResolved unmapped looked_elsewhere blue_key)
+        × (¬ IsLookedUpResolved unmapped forward_elsewhere blue_key)
+        × (¬ IsLookedUpResolved unmapped forward_held_elsewhere blue_key)
+        × (¬ IsLookedUpResolved unmapped forward_given_up_elsewhere blue_key) }
     ensures once { (¬ AreHeldOnce one_stamp) × (¬ AreHeldOnce held_twice) }
     ensures put_once { ¬ ArePutOnce released_twice }
     ensures asked { (¬ AreAskedFor unmapped one_held) × (¬ AreAskedFor unmapped asked_for_another)
@@ -257,6 +265,11 @@ pub fn laws_exclude_with_resolution()
         × (¬ AreAskedFor unmapped asked_elsewhere) }
     ensures given_up { ¬ IsNothingGivenUp unmapped full_ring }
     ensures heard { (¬ AreHeardOrOnTheirWay unmapped heard_and_held)
-        × (¬ AreHeardOrOnTheirWay unmapped heard_by_all) }
-    ensures at_rest { ¬ AreHeard unmapped own_held }
+        × (¬ AreHeardOrOnTheirWay unmapped heard_by_all)
+        × (¬ AreHeardOrOnTheirWay unmapped (take 2 heard_by_all))
+        × (¬ AreHeardOrOnTheirWay unmapped heard_as_packet)
+        × (¬ AreHeardOrOnTheirWay unmapped (take 2 heard_as_packet))
+        × (¬ AreHeardOrOnTheirWay unmapped held_for_nobody)
+        × (¬ AreHeardOrOnTheirWay unmapped (held_for_nobody ++ Lost 0 ∷ [])) }
+    ensures at_rest { (¬ AreHeard unmapped own_held) × (¬ AreHeard unmapped heard_by_another) }
 {}
