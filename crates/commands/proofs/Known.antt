@@ -7,6 +7,7 @@ use Rattle.at_base.specs.declared.error.Error.{Error}
 use Rattle.at_base.specs.declared.error.Error.TheVariants.{BadScript, Full, Memory, ReadFault, WriteFault}
 use Rattle.internet_file.specs.Files.{IsFile, IsFileRefused, Planned}
 use Rattle.playing.specs.Captured.{world_capture}
+use Rattle.playing.specs.Lives.{Fills, Outgrows}
 use Rattle.playing.specs.Plays.{IsPlay}
 use Rattle.script.specs.Scripts.{IsBadAt, IsScript}
 use Rattle.script.specs.declared.step.Step.{Step}
@@ -124,6 +125,10 @@ abbrev pub IsRefused : List ℕ → Error → Type 0
 IsRefused text e =
     (e ≡ ReadFault) ⊎ IsFileRefused text e
     ⊎ (((plan : Planned) × IsFile text plan) × ((e ≡ Full) ⊎ (e ≡ Memory) ⊎ (e ≡ WriteFault)))
+
+-- The play is full: one of the plan's ticks has no room, or version 1 is asked for and not enough.
+abbrev pub IsFull : Option Version → List ℕ → Type 0
+IsFull version text = (plan : Planned) × IsFile text plan × (Fills plan ⊎ Outgrows version plan)
 
 -- Writing the result of a play has no error but that of a writer.
 pub play_handed : (text : List ℕ) (r : Result Bool Error) → ((plan : Planned) × IsFile text plan) → IsOkUnless r WriteFault

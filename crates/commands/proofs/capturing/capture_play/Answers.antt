@@ -1,4 +1,4 @@
-use Rattle.std.proofs.Common.{◌≡◌, ◌⊎◌, Result, Ok, Err, IfOk, OnOk, inl, inr, subst, sym}
+use Rattle.std.proofs.Common.{◌≡◌, ◌⊎◌, Result, Ok, Err, IfOk, OnOk, inl, inr, subst, sym, ⊎_elim}
 use Rattle.std.proofs.lemmas.Result.{IfErr-weaker}
 use Rattle.at_base.specs.declared.error.Error.{Error}
 use Rattle.at_base.specs.declared.error.Error.TheVariants.{WriteFault}
@@ -35,14 +35,10 @@ returns-in-Ok-clause-printed g c =
     c.args.capture.now.text.items) (sym same) did in
     (p.lines.items, p.image.items, play.0, play.1, play.2, lines, image, play.3)))
 
--- A consequence of either of two facts.
-either : {A B C : Type 0} → A ⊎ B → (A → C) → (B → C) → C
-either (inl a) f g = f a
-either (inr b) f g = g b
-
 -- If the image was touched, the lines of the play were written before.
 pub returns-in-Ok-clause-order : goal.returns-in-Ok-clause-order
 returns-in-Ok-clause-order g c =
-    either c.hand_over.ensures.hands.order inl
+    ⊎_elim inl
     (λ wrote. inr (map_some _ _ (g.R.Read.remaining c.args.input.now.reader) c.in-Ok.ensures.played
     (λ text p. (c.in-Ok.played.lines.items, c.in-Ok.played.yes, p.0, p.1, wrote))))
+    c.hand_over.ensures.hands.order

@@ -1,11 +1,9 @@
-use Rattle.std.proofs.Common.{rules, ◌≡◌, ◌⊎◌, List, ℕ, Option, Err, IfSome, ap, inl, inr, subst}
+use Rattle.std.proofs.Common.{rules, ◌≡◌, ◌⊎◌, List, ℕ, Err, IfSome, ap, inl, inr, subst}
 use Rattle.at_base.specs.declared.error.Error.{Error}
 use Rattle.at_base.specs.declared.error.Error.TheVariants.{Full, Memory, WriteFault}
 use Rattle.internet_file.specs.Files.{IsFile, IsFileRefused, Planned}
-use Rattle.playing.specs.Lives.{Fills, Outgrows}
-use Rattle.table_image.specs.declared.version.Version.{Version}
 use Rattle.commands.specs.Streams.{IsPlayRefused}
-use Rattle.commands.proofs.Known.{CapturedOf, map_some, play_named}
+use Rattle.commands.proofs.Known.{CapturedOf, IsFull, map_some, play_named}
 use Rattle.commands.proofs.capturing.read_and_capture.Goals as goal
 
 -- The error is one that a play of the text with a capture may have.
@@ -40,10 +38,6 @@ returns-in-Err-clause-refused g c =
 
 pub returns-in-Err-clause-named : goal.returns-in-Err-clause-named
 returns-in-Err-clause-named g c = named c.in-Err.error c.as_slice.result.now c.in-Err.ensures.refused
-
--- The play is full: one of the plan's ticks has no room, or version 1 is asked for and not enough.
-abbrev IsFull : Option Version → List ℕ → Type 0
-IsFull version text = (plan : Planned) × IsFile text plan × (Fills plan ⊎ Outgrows version plan)
 
 pub returns-in-Err-clause-full : goal.returns-in-Err-clause-full
 returns-in-Err-clause-full g c = λ is.

@@ -1,4 +1,4 @@
-use Rattle.std.proofs.Common.{◌≡◌, ◌⊎◌, List, ℕ, Bool, Result, Ok, Err, IfErr, IsOkUnless, inl, inr}
+use Rattle.std.proofs.Common.{◌≡◌, ◌⊎◌, List, ℕ, Bool, Result, Ok, Err, IfErr, IsOkUnless, inl, inr, ⊎_elim}
 use Rattle.std.proofs.lemmas.Result.{IfErr-weaker}
 use Rattle.at_base.specs.declared.error.Error.{Error}
 use Rattle.at_base.specs.declared.error.Error.TheVariants.{ReadFault, WriteFault}
@@ -7,11 +7,6 @@ use Rattle.tables_file.specs.Files.{AreRefused, AreTables}
 use Rattle.commands.specs.Streams.{AreTablesRefused}
 use Rattle.commands.proofs.Known.{map_some}
 use Rattle.commands.proofs.make_file.make_bytes.Goals as goal
-
--- A consequence of either of two facts.
-either : {A B C : Type 0} → A ⊎ B → (A → C) → (B → C) → C
-either (inl a) f g = f a
-either (inr b) f g = g b
 
 -- The error is one that a tables file of this text may have.
 abbrev IsRefused : List ℕ → Error → Type 0
@@ -48,6 +43,7 @@ returns-in-Err-clause-refused g c =
 -- If the image was touched, the line of its verdict was written before.
 pub returns-in-Ok-clause-order : goal.returns-in-Ok-clause-order
 returns-in-Ok-clause-order g c =
-    either c.hand_over.ensures.hands.order inl
+    ⊎_elim inl
     (λ wrote. inr (map_some _ _ (g.R.Read.remaining c.args.input.now.reader) c.in-Ok.ensures.made
     (λ text p. (c.in-Ok.made.lines.items, c.in-Ok.made.yes, p.0, p.1, wrote))))
+    c.hand_over.ensures.hands.order

@@ -1,4 +1,4 @@
-use Rattle.std.proofs.Common.{rules, ◌≡◌, ◌⊎◌, List, ℕ, IfSome, inr, subst}
+use Rattle.std.proofs.Common.{rules, ◌≡◌, List, ℕ, IfSome, inr, subst}
 use Rattle.tables_file.specs.Files.{AreRefused}
 use Rattle.commands.proofs.Known.{map_some, tables_named}
 use Rattle.commands.proofs.make_file.read_and_make.Goals as goal

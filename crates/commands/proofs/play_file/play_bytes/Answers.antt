@@ -1,4 +1,4 @@
-use Rattle.std.proofs.Common.{◌≡◌, ◌⊎◌, List, ℕ, Ok, Err, inl, inr}
+use Rattle.std.proofs.Common.{◌≡◌, ◌⊎◌, List, ℕ, inl, inr, ⊎_elim}
 use Rattle.std.proofs.lemmas.Result.{IfErr-weaker}
 use Rattle.at_base.specs.declared.error.Error.{Error}
 use Rattle.at_base.specs.declared.error.Error.TheVariants.{Full, Memory, ReadFault, WriteFault}
@@ -6,11 +6,6 @@ use Rattle.internet_file.specs.Files.{IsFile, IsFileRefused, Planned}
 use Rattle.commands.specs.Streams.{IsPlayRefused}
 use Rattle.commands.proofs.Known.{IsRefused, map_some, play_handed}
 use Rattle.commands.proofs.play_file.play_bytes.Goals as goal
-
--- A consequence of either of two facts.
-either : {A B C : Type 0} → A ⊎ B → (A → C) → (B → C) → C
-either (inl a) f g = f a
-either (inr b) f g = g b
 
 -- A text whose play has an error isn't written.
 unplayed : (text : List ℕ) (e : Error) → (e ≡ ReadFault) ⊎ IsFileRefused text e
@@ -40,6 +35,7 @@ returns-in-Err-clause-refused g c =
 -- If the image was touched, the lines of the play were written before.
 pub returns-in-Ok-clause-order : goal.returns-in-Ok-clause-order
 returns-in-Ok-clause-order g c =
-    either c.hand_over.ensures.hands.order inl
+    ⊎_elim inl
     (λ wrote. inr (map_some _ _ (g.R.Read.remaining c.args.input.now.reader) c.in-Ok.ensures.played
     (λ text p. (c.in-Ok.played.lines.items, c.in-Ok.played.yes, p.0, p.1, wrote))))
+    c.hand_over.ensures.hands.order
