@@ -39,7 +39,7 @@ impl Must {
             Must::Zones => "a list of 1 to 255 names of zones",
             Must::Zone => "the name of a zone: 1 to 32 printable ASCII characters, not * alone",
             Must::Ports => "a list of 1 to 16 tables",
-            Must::Hardware => "a text of 12 hexadecimal digits",
+            Must::Hardware => "a text of 12 hexadecimal digits, without colons",
             Must::Addresses => "a list of at most 16 addresses",
             Must::Address => "an address as \"10.7\"",
             Must::Names => "a list of at most 32 tables",

@@ -22,7 +22,10 @@ pub fn explain_kind(kind: ErrorKind) -> &'static str {
 fn explain_cause(cause: Cause) -> &'static str {
     match cause {
         Cause::Cut => "it ends within a field; was it cut short?",
-        Cause::Magic => "it does not begin with ATIM; is it another kind of file?",
+        Cause::Magic => {
+            "it does not begin with ATIM; is it an internet file, for atalk play, \
+             or a tables file, for atalk make?"
+        }
         Cause::Version => "its version is neither 1 nor 2, and this atalk reads no other",
         Cause::Count => "this count is above its limit",
         Cause::Index => "there is no cable or port of this index",

@@ -14,6 +14,10 @@ pub fn explain_no(rt: &impl Eprint, image: &Image) -> io::Result<()> {
         Verdict::No(fault) => {
             eprintln!(rt; "C{}: {}", fault.rule, meaning(fault.rule))?;
             explain_place(rt, image, fault.rule, fault.place)?;
+            // Rules are tried in their order, and the first seven are those of the ways.
+            if fault.rule > 7 {
+                eprintln!(rt; "C1 to C7 hold: no datagram goes in circles.")?;
+            }
             eprintln!(rt; "What to change: {}", what_to_change(fault.rule))
         }
     }

@@ -62,9 +62,9 @@ pub(crate) fn what_to_change(rule: u8) -> &'static str {
         6 => "wait for the row to age out, or restart the router that has it.",
         7 => "restart the routers nearest to that range, and then those further away.",
         8 => {
-            "wait a minute or two until the router has heard of all zones, and look again; \
-             if the list stays as it is, give each seed router of that cable the same zones, \
-             and restart the router that has the list."
+            "if the list isn't complete, wait a minute or two and look again. A complete one isn't \
+             asked for again: let all routers whose settings name the zones of that cable name \
+             the same zones, and restart the router that is named here."
         }
         9 => {
             "restart the node: it hears of its router anew, and asks for its zone; \
