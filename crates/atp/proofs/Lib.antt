@@ -9,6 +9,7 @@ mod Due
 mod OpenIds
 mod Copies
 mod Requests
+mod Accepted
 pub mod Complete
 mod CompleteExample
 mod Replies

@@ -1,5 +1,5 @@
 -- What a call used of its inputs, and wrote to its outputs.
-use Rattle.std.specs.Prelude.{◌≡◌, ◌≢◌, ◌⊎◌, ℕ, List, Option, None, Result, Err, IfErr, IfSome, IsErrAnd, IsOkUnless, IsSome, OnErr, OnOk}
+use Rattle.std.specs.Prelude.{◌≡◌, ◌≢◌, ◌⊎◌, ◌+◌, ◌%◌, ◌^◌, ◌≤◌, ℕ, List, Option, None, Result, Err, IfErr, IfSome, IsErrAnd, IsOkUnless, IsSome, OnErr, OnOk}
 use Rattle.std.specs.Io.KnownBytes.{IsAtEnd}
 use Rattle.at_base.specs.Spelling.{Spells}
 use Rattle.at_base.specs.declared.error.Error.{Error}
@@ -46,6 +46,17 @@ pub record Uses {A X : Type 0} (left : Option (List ℕ)) (before after : ℕ) (
   pub last : EndsReading end_before end_after reads
   pub read_fault : result ≡ Err ReadFault → (after ≢ before) ⊎ (reads ≡ most_reads)
   pub limit : result ≡ Err ReadFault → after ≡ before → reads ≡ most_reads
+
+-- What an input notes of its reads: of the failed ones how many, and the reason of the last; all of them; and the first
+-- that gave nothing. A failed read is counted once, and without one the reason stays. The number of reads only grows. The
+-- end that was found first stays, and none is noted but where the input is at its end.
+pub record Notes {X : Type 0} (left : Option (List ℕ)) (before after : ℕ) (why_before why_after : Option X) (reads_before reads_after : ℕ)
+    (end_before end_after : Option ℕ) : Type 0 where
+  pub counts : (after ≡ before) ⊎ (after ≡ (before + 1) % 2 ^ 32)
+  pub no_reason : after ≡ before → why_after ≡ why_before
+  pub counted : reads_before ≤ reads_after
+  pub first : IsSome end_before → end_after ≡ end_before
+  pub ended : (end_after ≡ end_before) ⊎ IsAtEnd left
 
 -- ---- Outputs: their failed writes before and after the call
 

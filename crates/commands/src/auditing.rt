@@ -10,7 +10,7 @@ ghost use Rattle.table_image.specs.Spelling.{image_spelling};
 ghost use Rattle.audit.specs.Verdicts.{Judges, is_yes, verdict_line};
 ghost use Rattle.audit.specs.declared.verdict.Verdict.{Verdict};
 ghost use Rattle.commands.specs.Pieces.{ReadsNoMore, ReadsUnflawed};
-ghost use Rattle.commands.specs.Streams.{IsImageRefused, Judged, Uses, Wrote};
+ghost use Rattle.commands.specs.Streams.{IsImageRefused, Judged, Notes, Uses, Wrote};
 
 use crate::image_input::read_from;
 use crate::input::Input;
@@ -44,6 +44,11 @@ pub fn audit_file<R: Read, W: Write>(
     ensures no_more { ReadsNoMore (R.remaining input.old.reader) (R.remaining input.new.reader) }
     ensures uses { Uses (R.remaining input.new.reader) input.old.faults input.new.faults
         input.new.fault input.new.reads input.old.ended input.new.ended result }
+    ensures notes { Notes (R.remaining input.new.reader) input.old.faults input.new.faults
+        input.old.fault input.new.fault input.old.reads input.new.reads input.old.ended input.new.ended }
+    ensures unended { result ≡ Err Error.ReadFault → input.new.ended ≡ input.old.ended }
+    ensures held { input.new.kept ≡ input.old.kept }
+    ensures flawed { OnOk result (input.new.flawed ≡ input.old.flawed) }
     ensures wrote { Wrote output.old.faults output.new.faults result }
     // After an error other than `WriteFault`, nothing was written.
     ensures nothing_written { IfErr result (λ e. e ≢ Error.WriteFault → output.new ≡ output.old) }

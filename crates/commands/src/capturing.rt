@@ -2,7 +2,7 @@
 
 ghost use Rattle.std.specs.Prelude.{◌≡◌, ◌≢◌, ◌⊎◌, ◌++◌, [], ℕ, Bool, List, OnOk};
 ghost use Rattle.std.specs.Prelude.{Err, IfOk, IfErr, IfSome, IsSomeAnd, MatchResult};
-ghost use Rattle.std.specs.Io.KnownBytes.{Appends};
+ghost use Rattle.std.specs.Io.KnownBytes.{Appends, IsAtEnd};
 ghost use Rattle.at_base.specs.Spelling.{Spells};
 ghost use Rattle.frozen_trace.specs.Captured.{IsCaptured, IsTraced};
 ghost use Rattle.internet_file.specs.Files.{IsFile, IsFileRefused, Planned};
@@ -16,7 +16,7 @@ ghost use Rattle.table_image.specs.Spelling.{image_spelling};
 ghost use Rattle.commands.specs.Captures.{PlayWrote, TraceWrote};
 ghost use Rattle.commands.specs.Pieces.{ReadsNoMore, ReadsUnflawed};
 ghost use Rattle.commands.specs.Streams.{First, IsImageRefused, IsPlayRefused, IsScriptRefused};
-ghost use Rattle.commands.specs.Streams.{Reads, Run, Uses, most_reads};
+ghost use Rattle.commands.specs.Streams.{Reads, Run, Notes, Uses, most_reads};
 
 use crate::handing::{hand_over, keep_text};
 use crate::image_input::read_image;
@@ -57,6 +57,11 @@ fn read_and_capture<R: Read, C: Write, P: Progress>(
         (plan : Planned) × IsFile text plan × (Fills plan ⊎ Outgrows version plan)) }
     ensures uses { Uses (R.remaining input.new.reader) input.old.faults input.new.faults
         input.new.fault input.new.reads input.old.ended input.new.ended result }
+    ensures notes { Notes (R.remaining input.new.reader) input.old.faults input.new.faults
+        input.old.fault input.new.fault input.old.reads input.new.reads input.old.ended input.new.ended }
+    ensures unended { result ≡ Err Error.ReadFault → input.new.ended ≡ input.old.ended }
+    ensures image { input.new.image ≡ input.old.image }
+    ensures flawed { input.new.flawed ≡ input.old.flawed }
     ensures fault { result ≡ Err Error.WriteFault → capture.new.faults ≢ capture.old.faults }
     ensures stays { OnOk result (capture.new.faults ≡ capture.old.faults) }
     ensures nothing_captured { IfErr result (λ e. e ≢ Error.WriteFault → e ≢ Error.Memory
@@ -113,6 +118,11 @@ pub fn capture_play<R: Read, W: Write, I: Write, C: Write, P: Progress>(
         (plan : Planned) × IsFile text plan × (Fills plan ⊎ Outgrows version plan)) }
     ensures uses { Uses (R.remaining input.new.reader) input.old.faults input.new.faults
         input.new.fault input.new.reads input.old.ended input.new.ended result }
+    ensures notes { Notes (R.remaining input.new.reader) input.old.faults input.new.faults
+        input.old.fault input.new.fault input.old.reads input.new.reads input.old.ended input.new.ended }
+    ensures unended { result ≡ Err Error.ReadFault → input.new.ended ≡ input.old.ended }
+    ensures image { input.new.image ≡ input.old.image }
+    ensures flawed { input.new.flawed ≡ input.old.flawed }
     ensures wrote { PlayWrote (output.new ≡ output.old) (image.new ≡ image.old)
         (capture.new ≡ capture.old) output.old.faults output.new.faults image.old.faults
         image.new.faults capture.old.faults capture.new.faults result }
@@ -131,6 +141,10 @@ pub fn capture_play<R: Read, W: Write, I: Write, C: Write, P: Progress>(
         (λ e. e ≢ Error.ReadFault → e ≢ Error.Memory → e ≢ Error.WriteFault
         → IsSomeAnd input.new.kept (λ v.
         IfSome (R.remaining input.old.reader) (λ text. v.items ≡ text))) }
+    // Where something was written, nothing is left of what comes before it.
+    ensures left { (image.new ≡ image.old) ⊎ (output.new.text.items ≡ []) }
+    ensures capture_left { ((output.new ≡ output.old) × (image.new ≡ image.old))
+        ⊎ (capture.new.text.items ≡ []) }
     ensures empty { OnOk result ((output.new.text.items ≡ []) × (image.new.text.items ≡ [])
         × (capture.new.text.items ≡ [])) }
 {
@@ -175,8 +189,18 @@ pub fn capture_run<I: Read, S: Read, W: Write, C: Write>(
     ensures no_more { ReadsNoMore (I.remaining image.old.reader) (I.remaining image.new.reader) }
     ensures image { Reads (I.remaining image.new.reader) image.old.faults image.new.faults
         image.new.fault image.new.reads image.old.ended image.new.ended result }
+    ensures image_notes { Notes (I.remaining image.new.reader) image.old.faults image.new.faults
+        image.old.fault image.new.fault image.old.reads image.new.reads image.old.ended image.new.ended }
+    ensures held { image.new.kept ≡ image.old.kept }
     ensures script { Reads (S.remaining script.new.reader) script.old.faults script.new.faults
         script.new.fault script.new.reads script.old.ended script.new.ended result }
+    ensures script_notes { Notes (S.remaining script.new.reader) script.old.faults script.new.faults
+        script.old.fault script.new.fault script.old.reads script.new.reads script.old.ended script.new.ended }
+    ensures script_held { (script.new.kept ≡ script.old.kept) × (script.new.image ≡ script.old.image)
+        × (script.new.flawed ≡ script.old.flawed) }
+    // Nothing is written before both were read to their ends.
+    ensures begun { (output.new ≡ output.old)
+        ⊎ (IsAtEnd (I.remaining image.new.reader) × IsAtEnd (S.remaining script.new.reader)) }
     ensures wrote { TraceWrote (output.new ≡ output.old) (capture.new ≡ capture.old)
         output.old.faults output.new.faults capture.old.faults capture.new.faults result }
     // Nothing of the capture is written before the whole trace.
@@ -189,6 +213,9 @@ pub fn capture_run<I: Read, S: Read, W: Write, C: Write>(
     ensures first { First (I.remaining image.old.reader) (script.new ≡ script.old)
         (IsSomeAnd image.new.image (λ i.
         IfSome (I.remaining image.old.reader) (λ bytes. Spells image_spelling bytes i))) result }
+    // Where some of the capture was written, no write of the trace failed, and nothing is left of it.
+    ensures blamed { (capture.new ≡ capture.old) ⊎ ((output.new.faults ≡ output.old.faults)
+        × (output.new.text.items ≡ [])) }
     ensures empty { OnOk result ((output.new.text.items ≡ []) × (capture.new.text.items ≡ [])) }
 {
     let image = read_image(alloc, image)?;

@@ -1,6 +1,6 @@
 //! Writes the lines of an answer, and then the bytes of its image.
 
-ghost use Rattle.std.specs.Prelude.{◌≡◌, ◌++◌, [], Some};
+ghost use Rattle.std.specs.Prelude.{◌≡◌, ◌⊎◌, ◌++◌, [], Some};
 ghost use Rattle.std.specs.Prelude.{IfOk, IsSomeAnd, OnErr, OnOk};
 ghost use Rattle.std.specs.Io.KnownBytes.{Appends};
 ghost use Rattle.commands.specs.Streams.{Hands};
@@ -67,6 +67,7 @@ fn write_played<W: Write, I: Write>(
         (Appends (W.contents output.old.writer) (W.contents output.new.writer)
         (output.old.text.items ++ played.now.lines.items))
         output.old.faults output.new.faults image.old.faults image.new.faults result }
+    ensures left { (image.new ≡ image.old) ⊎ (output.new.text.items ≡ []) }
     ensures empty { OnOk result ((output.new.text.items ≡ []) × (image.new.text.items ≡ [])) }
 {
     match write_bytes(output, played.lines.as_slice()) {
@@ -119,6 +120,9 @@ pub(crate) fn hand_over<R, W: Write, I: Write>(
         Appends (I.contents image.old.writer) (I.contents image.new.writer)
         (image.old.text.items ++ bytes.items))) }
     ensures input_stays { OnErr result (input.new ≡ input.old) }
+    ensures input_image { input.new.image ≡ input.old.image }
+    ensures input_flawed { input.new.flawed ≡ input.old.flawed }
+    ensures left { (image.new ≡ image.old) ⊎ (output.new.text.items ≡ []) }
     ensures empty { OnOk result ((output.new.text.items ≡ []) × (image.new.text.items ≡ [])) }
 {
     match write_played(&played, output, image) {

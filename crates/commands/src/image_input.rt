@@ -9,7 +9,7 @@ ghost use Rattle.table_image.specs.Spelling.{image_spelling};
 ghost use Rattle.table_image.specs.declared.flaw.Flaw.{Flaw};
 ghost use Rattle.image_feed.specs.Feeds.{HasRead, IsFlawed};
 ghost use Rattle.commands.specs.Pieces.{ReadsNoMore, ReadsUnflawed};
-ghost use Rattle.commands.specs.Streams.{IsImageRefused, Uses};
+ghost use Rattle.commands.specs.Streams.{IsImageRefused, Notes, Uses};
 
 use crate::input::{Input, READS};
 use at_base::Error;
@@ -35,6 +35,9 @@ fn feed_input<R: Read>(alloc: Global, input: &mut Input<R>) -> Result<Feed, Erro
     ensures no_script { IfErr result (λ e. (n : ℕ) → e ≢ Error.BadScript n) }
     ensures uses { Uses (R.remaining input.new.reader) input.old.faults input.new.faults
         input.new.fault input.new.reads input.old.ended input.new.ended result }
+    ensures notes { Notes (R.remaining input.new.reader) input.old.faults input.new.faults
+        input.old.fault input.new.fault input.old.reads input.new.reads input.old.ended input.new.ended }
+    ensures unended { result ≡ Err Error.ReadFault → input.new.ended ≡ input.old.ended }
     ensures held { input.new.kept ≡ input.old.kept }
     ensures image { input.new.image ≡ input.old.image }
     // Only a refused image has a flawed byte.
@@ -83,6 +86,9 @@ pub fn read_from<R: Read>(alloc: Global, input: &mut Input<R>) -> Result<Image, 
     ensures refused { IfErr result (λ e. e ≢ Error.WriteFault) }
     ensures uses { Uses (R.remaining input.new.reader) input.old.faults input.new.faults
         input.new.fault input.new.reads input.old.ended input.new.ended result }
+    ensures notes { Notes (R.remaining input.new.reader) input.old.faults input.new.faults
+        input.old.fault input.new.fault input.old.reads input.new.reads input.old.ended input.new.ended }
+    ensures unended { result ≡ Err Error.ReadFault → input.new.ended ≡ input.old.ended }
     ensures held { input.new.kept ≡ input.old.kept }
     ensures image { input.new.image ≡ input.old.image }
     ensures flawed { OnOk result (input.new.flawed ≡ input.old.flawed) }
@@ -118,6 +124,9 @@ pub fn read_image<R: Read>(alloc: Global, input: &mut Input<R>) -> Result<Image,
     ensures no_script { IfErr result (λ e. (n : ℕ) → e ≢ Error.BadScript n) }
     ensures uses { Uses (R.remaining input.new.reader) input.old.faults input.new.faults
         input.new.fault input.new.reads input.old.ended input.new.ended result }
+    ensures notes { Notes (R.remaining input.new.reader) input.old.faults input.new.faults
+        input.old.fault input.new.fault input.old.reads input.new.reads input.old.ended input.new.ended }
+    ensures unended { result ≡ Err Error.ReadFault → input.new.ended ≡ input.old.ended }
     ensures kept { OnOk result (IsSomeAnd input.new.image (λ i.
         IfSome (R.remaining input.old.reader) (λ bytes. Spells image_spelling bytes i))) }
     ensures same { IfOk result (λ image. input.new.image ≡ Some image) }

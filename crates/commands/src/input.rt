@@ -89,6 +89,7 @@ impl<R: Read> Input<R> {
         ensures found { OnOk result (IsSome self.new.ended) }
         ensures first { IsSome self.old.ended → self.new.ended ≡ self.old.ended }
         ensures last { EndsReading self.old.ended self.new.ended self.new.reads }
+        ensures unended { OnErr result (self.new.ended ≡ self.old.ended) }
         ensures kept { self.new.kept ≡ self.old.kept }
         ensures image { self.new.image ≡ self.old.image }
         ensures flawed { self.new.flawed ≡ self.old.flawed }

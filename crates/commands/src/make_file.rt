@@ -8,7 +8,7 @@ ghost use Rattle.table_image.specs.Internet.{Internet};
 ghost use Rattle.table_image.specs.Spelling.{image_spelling};
 ghost use Rattle.tables_file.specs.Files.{AreRefused, AreTables};
 ghost use Rattle.commands.specs.Making.{IsMade};
-ghost use Rattle.commands.specs.Streams.{AreTablesRefused, Uses, WroteImage};
+ghost use Rattle.commands.specs.Streams.{AreTablesRefused, Notes, Uses, WroteImage};
 
 use crate::handing::{hand_over, keep_text};
 use crate::input::Input;
@@ -40,6 +40,11 @@ fn read_and_make<R: Read>(alloc: Global, input: &mut Input<R>) -> Result<Played,
         (e ≡ Error.ReadFault) ⊎ AreRefused text e)) }
     ensures uses { Uses (R.remaining input.new.reader) input.old.faults input.new.faults
         input.new.fault input.new.reads input.old.ended input.new.ended result }
+    ensures notes { Notes (R.remaining input.new.reader) input.old.faults input.new.faults
+        input.old.fault input.new.fault input.old.reads input.new.reads input.old.ended input.new.ended }
+    ensures unended { result ≡ Err Error.ReadFault → input.new.ended ≡ input.old.ended }
+    ensures image { input.new.image ≡ input.old.image }
+    ensures flawed { input.new.flawed ≡ input.old.flawed }
     ensures not_written { IfErr result (λ e. e ≢ Error.WriteFault) }
     // A text that was read to its end is kept if it has an error.
     ensures kept { IfErr result (λ e. e ≢ Error.ReadFault → e ≢ Error.Memory
@@ -84,6 +89,11 @@ pub fn make_bytes<R: Read, W: Write, I: Write>(
         ⊎ (((i : Internet) × AreTables text i) × (e ≡ Error.WriteFault)))) }
     ensures uses { Uses (R.remaining input.new.reader) input.old.faults input.new.faults
         input.new.fault input.new.reads input.old.ended input.new.ended result }
+    ensures notes { Notes (R.remaining input.new.reader) input.old.faults input.new.faults
+        input.old.fault input.new.fault input.old.reads input.new.reads input.old.ended input.new.ended }
+    ensures unended { result ≡ Err Error.ReadFault → input.new.ended ≡ input.old.ended }
+    ensures image { input.new.image ≡ input.old.image }
+    ensures flawed { input.new.flawed ≡ input.old.flawed }
     ensures wrote { WroteImage (output.new ≡ output.old) (image.new ≡ image.old) output.old.faults
         output.new.faults image.old.faults image.new.faults result }
     // The image isn't written before the line of its verdict is.
@@ -101,6 +111,8 @@ pub fn make_bytes<R: Read, W: Write, I: Write>(
         (λ e. e ≢ Error.ReadFault → e ≢ Error.Memory → e ≢ Error.WriteFault
         → IsSomeAnd input.new.kept (λ v.
         IfSome (R.remaining input.old.reader) (λ text. v.items ≡ text))) }
+    // Where some of the image was written, nothing is left of the lines.
+    ensures left { (image.new ≡ image.old) ⊎ (output.new.text.items ≡ []) }
     ensures empty { OnOk result ((output.new.text.items ≡ []) × (image.new.text.items ≡ [])) }
 {
     match read_and_make(alloc, input) {

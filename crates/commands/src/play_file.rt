@@ -9,7 +9,7 @@ ghost use Rattle.playing.specs.Lives.{Fills, Outgrows};
 ghost use Rattle.playing.specs.Plays.{IsPlay};
 ghost use Rattle.table_image.specs.Internet.{Internet};
 ghost use Rattle.table_image.specs.Spelling.{image_spelling};
-ghost use Rattle.commands.specs.Streams.{IsPlayRefused, Uses, WroteImage};
+ghost use Rattle.commands.specs.Streams.{IsPlayRefused, Notes, Uses, WroteImage};
 
 use crate::handing::{hand_over, keep_text};
 use crate::input::Input;
@@ -41,6 +41,11 @@ fn read_and_play<R: Read, P: Progress>(
         (plan : Planned) × IsFile text plan × (Fills plan ⊎ Outgrows version plan)) }
     ensures uses { Uses (R.remaining input.new.reader) input.old.faults input.new.faults
         input.new.fault input.new.reads input.old.ended input.new.ended result }
+    ensures notes { Notes (R.remaining input.new.reader) input.old.faults input.new.faults
+        input.old.fault input.new.fault input.old.reads input.new.reads input.old.ended input.new.ended }
+    ensures unended { result ≡ Err Error.ReadFault → input.new.ended ≡ input.old.ended }
+    ensures image { input.new.image ≡ input.old.image }
+    ensures flawed { input.new.flawed ≡ input.old.flawed }
     ensures not_written { IfErr result (λ e. e ≢ Error.WriteFault) }
     // A text that was read to its end is kept if its play has an error.
     ensures kept { IfErr result (λ e. e ≢ Error.ReadFault → e ≢ Error.Memory
@@ -93,6 +98,11 @@ pub fn play_bytes<R: Read, W: Write, I: Write, P: Progress>(
         (plan : Planned) × IsFile text plan × (Fills plan ⊎ Outgrows version plan)) }
     ensures uses { Uses (R.remaining input.new.reader) input.old.faults input.new.faults
         input.new.fault input.new.reads input.old.ended input.new.ended result }
+    ensures notes { Notes (R.remaining input.new.reader) input.old.faults input.new.faults
+        input.old.fault input.new.fault input.old.reads input.new.reads input.old.ended input.new.ended }
+    ensures unended { result ≡ Err Error.ReadFault → input.new.ended ≡ input.old.ended }
+    ensures image { input.new.image ≡ input.old.image }
+    ensures flawed { input.new.flawed ≡ input.old.flawed }
     ensures wrote { WroteImage (output.new ≡ output.old) (image.new ≡ image.old) output.old.faults
         output.new.faults image.old.faults image.new.faults result }
     // The image isn't written before all lines of the play are.
@@ -110,6 +120,8 @@ pub fn play_bytes<R: Read, W: Write, I: Write, P: Progress>(
         (λ e. e ≢ Error.ReadFault → e ≢ Error.Memory → e ≢ Error.WriteFault
         → IsSomeAnd input.new.kept (λ v.
         IfSome (R.remaining input.old.reader) (λ text. v.items ≡ text))) }
+    // Where some of the image was written, nothing is left of the lines.
+    ensures left { (image.new ≡ image.old) ⊎ (output.new.text.items ≡ []) }
     ensures empty { OnOk result ((output.new.text.items ≡ []) × (image.new.text.items ≡ [])) }
 {
     match read_and_play(alloc, input, progress, version) {

@@ -4,7 +4,7 @@ ghost use Rattle.std.specs.Prelude.{◌≡◌, ◌≢◌, ◌⊎◌, ℕ, List};
 ghost use Rattle.std.specs.Prelude.{IfOk, IfErr, IfSome, IsErrAnd};
 ghost use Rattle.script.specs.Scripts.{IsBadAt, IsScript};
 ghost use Rattle.script.specs.declared.step.Step.{Step as StepValue};
-ghost use Rattle.commands.specs.Streams.{IsScriptRefused, Uses};
+ghost use Rattle.commands.specs.Streams.{IsScriptRefused, Notes, Uses};
 
 use crate::input::Input;
 use at_base::Error;
@@ -28,6 +28,12 @@ pub fn read_steps<R: Read>(alloc: Global, input: &mut Input<R>) -> Result<Vec<St
     ensures refused { IfErr result (λ e. e ≢ Error.WriteFault) }
     ensures uses { Uses (R.remaining input.new.reader) input.old.faults input.new.faults
         input.new.fault input.new.reads input.old.ended input.new.ended result }
+    ensures notes { Notes (R.remaining input.new.reader) input.old.faults input.new.faults
+        input.old.fault input.new.fault input.old.reads input.new.reads input.old.ended input.new.ended }
+    ensures unended { result ≡ Err Error.ReadFault → input.new.ended ≡ input.old.ended }
+    ensures held { input.new.kept ≡ input.old.kept }
+    ensures image { input.new.image ≡ input.old.image }
+    ensures flawed { input.new.flawed ≡ input.old.flawed }
 {
     // Only the prover needs this call: a script has no bad line.
     scripts_have_no_bad_line();

@@ -2,7 +2,7 @@
 
 ghost use Rattle.std.specs.Prelude.{◌≡◌, ◌≢◌, ◌⊎◌, ◌++◌, ℕ, List};
 ghost use Rattle.std.specs.Prelude.{[], IfOk, IfErr, IfSome, IsSomeAnd, OnOk};
-ghost use Rattle.std.specs.Io.KnownBytes.{Appends};
+ghost use Rattle.std.specs.Io.KnownBytes.{Appends, IsAtEnd};
 ghost use Rattle.at_base.specs.Spelling.{Spells};
 ghost use Rattle.frozen_trace.specs.Traces.{IsPrinted};
 ghost use Rattle.script.specs.Scripts.{IsScript};
@@ -11,7 +11,7 @@ ghost use Rattle.table_image.specs.Internet.{Internet};
 ghost use Rattle.table_image.specs.Spelling.{image_spelling};
 ghost use Rattle.commands.specs.Pieces.{ReadsNoMore, ReadsUnflawed};
 ghost use Rattle.commands.specs.Streams.{First, IsImageRefused, IsScriptRefused};
-ghost use Rattle.commands.specs.Streams.{Reads, Run, Wrote, most_reads};
+ghost use Rattle.commands.specs.Streams.{Notes, Reads, Run, Wrote, most_reads};
 
 use crate::image_input::read_image;
 use crate::input::Input;
@@ -55,8 +55,18 @@ pub fn run_frozen<I: Read, S: Read, W: Write>(
     ensures no_more { ReadsNoMore (I.remaining image.old.reader) (I.remaining image.new.reader) }
     ensures image { Reads (I.remaining image.new.reader) image.old.faults image.new.faults
         image.new.fault image.new.reads image.old.ended image.new.ended result }
+    ensures image_notes { Notes (I.remaining image.new.reader) image.old.faults image.new.faults
+        image.old.fault image.new.fault image.old.reads image.new.reads image.old.ended image.new.ended }
+    ensures held { image.new.kept ≡ image.old.kept }
     ensures script { Reads (S.remaining script.new.reader) script.old.faults script.new.faults
         script.new.fault script.new.reads script.old.ended script.new.ended result }
+    ensures script_notes { Notes (S.remaining script.new.reader) script.old.faults script.new.faults
+        script.old.fault script.new.fault script.old.reads script.new.reads script.old.ended script.new.ended }
+    ensures script_held { (script.new.kept ≡ script.old.kept) × (script.new.image ≡ script.old.image)
+        × (script.new.flawed ≡ script.old.flawed) }
+    // Nothing is written before both were read to their ends.
+    ensures begun { (output.new ≡ output.old)
+        ⊎ (IsAtEnd (I.remaining image.new.reader) × IsAtEnd (S.remaining script.new.reader)) }
     ensures wrote { Wrote output.old.faults output.new.faults result }
     // After an error other than `WriteFault` and `Memory`, nothing was written.
     ensures nothing_written { IfErr result (λ e. e ≢ Error.WriteFault → e ≢ Error.Memory

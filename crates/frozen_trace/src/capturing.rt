@@ -108,6 +108,8 @@ fn trace_and_take<T: RouteTable, W: Write, C: Write>(
         × ((played : List ℕ) × PlaysAll run.old steps.now played run.new
         × Appends (W.contents output.old.writer) (W.contents output.new.writer)
         (output.old.text.items ++ played ++ pending_line run.new))) }
+    ensures blamed { (capture.new ≡ capture.old) ⊎ ((output.new.faults ≡ output.old.faults)
+        × (output.new.text.items ≡ [])) }
     ensures empty { OnOk result ((output.new.text.items ≡ []) × (capture.new.text.items ≡ [])) }
 {
     match trace_run(alloc, run, steps, lines, output) {
@@ -136,6 +138,8 @@ fn tell_no<W: Write, C: Write>(
     ensures first { (capture.new ≡ capture.old) ⊎ Appends (W.contents output.old.writer)
         (W.contents output.new.writer)
         (output.old.text.items ++ (verdict_line (VerdictValue.No fault) ++ 10 ∷ [])) }
+    ensures blamed { (capture.new ≡ capture.old) ⊎ ((output.new.faults ≡ output.old.faults)
+        × (output.new.text.items ≡ [])) }
     ensures empty { OnOk result ((output.new.text.items ≡ []) × (capture.new.text.items ≡ [])) }
 {
     match print_no(alloc, fault, output) {
@@ -170,6 +174,8 @@ fn capture_image<T: RouteTable, W: Write, C: Write>(
         capture.old.faults capture.new.faults result }
     ensures first { (capture.new ≡ capture.old) ⊎ IsTraced image steps.now
         (W.contents output.old.writer) output.old.text.items (W.contents output.new.writer) }
+    ensures blamed { (capture.new ≡ capture.old) ⊎ ((output.new.faults ≡ output.old.faults)
+        × (output.new.text.items ≡ [])) }
     ensures empty { OnOk result ((output.new.text.items ≡ []) × (capture.new.text.items ≡ [])) }
 {
     match Frozen::<T>::start(alloc, image, LIMIT) {
@@ -191,7 +197,7 @@ fn capture_image<T: RouteTable, W: Write, C: Write>(
 /// was put. Returns whether the image passes the audit.
 ///
 /// Errors: `Memory`; `WriteFault`, only if one of the writers failed. Nothing of the capture is
-/// written before the whole trace.
+/// written before the whole trace, and where some of it is, no write of the trace failed.
 pub fn trace_and_capture<T: RouteTable, W: Write, C: Write>(
     alloc: Global,
     image: Image,
@@ -209,6 +215,8 @@ pub fn trace_and_capture<T: RouteTable, W: Write, C: Write>(
         capture.old.faults capture.new.faults result }
     ensures first { (capture.new ≡ capture.old) ⊎ IsTraced image steps.now
         (W.contents output.old.writer) output.old.text.items (W.contents output.new.writer) }
+    ensures blamed { (capture.new ≡ capture.old) ⊎ ((output.new.faults ≡ output.old.faults)
+        × (output.new.text.items ≡ [])) }
     ensures empty { OnOk result ((output.new.text.items ≡ []) × (capture.new.text.items ≡ [])) }
 {
     let mut lines = Lines::new(alloc, &image)?;

@@ -8,6 +8,7 @@ pub mod LookedUp
 pub mod Expanding
 pub mod Ports
 pub mod Hands
+mod Disagreeing
 pub mod Arrivals
 pub mod Datagrams
 pub mod Fates

@@ -5,5 +5,8 @@
 mod requests;
 mod takes;
 
-pub use requests::{broadcast_requests_expand, forward_requests_are_looked_up, hands_agree};
+pub use requests::{
+    agreement_excludes, broadcast_requests_expand, forward_requests_are_looked_up, hands_agree,
+    legs_are_of_made_datagrams,
+};
 pub use takes::{nodes_takes_are_legal, routers_takes_are_legal, sendings_are_legal};

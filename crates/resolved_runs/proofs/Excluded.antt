@@ -31,7 +31,8 @@ use Rattle.resolved_runs.specs.Excluded.{forward_given_up_elsewhere, heard_as_pa
 use Rattle.resolved_runs.specs.Excluded.{blue_key, forward_held_and_put, forward_held_elsewhere, given_up_and_held}
 use Rattle.resolved_runs.specs.Excluded.{given_up_and_reached, heard_and_held, heard_by_all, held_and_dropped, held_and_elsewhere, held_twice}
 use Rattle.resolved_runs.specs.Excluded.{held_and_put, held_back, held_with_hops, not_forwarded, one_held, one_stamp, own_held}
-use Rattle.resolved_runs.specs.Excluded.{released_from_afar, released_twice, released_with_hops, request_held_and_put, request_taken_from_afar}
+use Rattle.resolved_runs.specs.Excluded.{released_from_afar, released_twice, released_with_hops, request_given_up, request_held_and_put}
+use Rattle.resolved_runs.specs.Excluded.{own_given_up, request_taken_from_afar}
 use Rattle.resolved_runs.specs.Excluded.{unlisted_and_dropped, unlisted_and_reached, unlisted_out_of_hops, vanished}
 use Rattle.resolved_runs.specs.HeldChains.{AreCarriedOrHeld}
 use Rattle.resolved_runs.specs.Plain.{plain}
@@ -314,6 +315,17 @@ not_elsewhere law =
 
 pub not_nothing : IsNothingGivenUp unmapped full_ring → ⊥
 not_nothing law = one_zero (law.copies (echo_request 0))
+
+pub no_request_given_up : IsNothingGivenUp unmapped request_given_up → ⊥
+unfolding request zone_of datagram packet tuple address text
+no_request_given_up law = one_zero (law.requests blue_key)
+
+pub no_forward_given_up : IsNothingGivenUp unmapped forward_given_up_elsewhere → ⊥
+unfolding request zone_of datagram packet tuple address text
+no_forward_given_up law = one_zero (law.forwards blue_key 0)
+
+pub no_body_given_up : IsNothingGivenUp unmapped own_given_up → ⊥
+no_body_given_up law = one_zero (law.bodies (plain_to 0 10 1))
 
 pub not_once : AreHeldOnce one_stamp → ⊥
 not_once law = two_at_most (law 0)

@@ -116,6 +116,16 @@ forward_held_elsewhere = Sent 1 red_forward ∷ held 0 1 1 20 1 red_forward ∷ 
 abbrev pub forward_given_up_elsewhere : List Entry
 forward_given_up_elsewhere = forward_held_elsewhere ++ Lost 0 ∷ []
 
+-- ---- Given up
+
+-- A request for names is given up while its node holds it.
+abbrev pub request_given_up : List Entry
+request_given_up = Sent 2 blue_request ∷ held 0 0 2 10 1 blue_request ∷ Lost 0 ∷ []
+
+-- A datagram to the router's own address is given up.
+abbrev pub own_given_up : List Entry
+own_given_up = Sent 2 (plain 0 10 1) ∷ held 0 0 2 10 1 (plain 0 10 1) ∷ Lost 0 ∷ []
+
 -- ---- Asked for
 
 -- Two datagrams are held with one stamp.

@@ -35,6 +35,7 @@ ghost use Rattle.resolved_runs.specs.Excluded.{held_and_elsewhere, held_and_put,
 ghost use Rattle.resolved_runs.specs.Excluded.{held_with_hops, not_forwarded, one_held, one_stamp};
 ghost use Rattle.resolved_runs.specs.Excluded.{held_twice, own_held, released_from_afar};
 ghost use Rattle.resolved_runs.specs.Excluded.{released_twice, released_with_hops};
+ghost use Rattle.resolved_runs.specs.Excluded.{own_given_up, request_given_up};
 ghost use Rattle.resolved_runs.specs.Excluded.{request_held_and_put, request_taken_from_afar};
 ghost use Rattle.resolved_runs.specs.Excluded.{unlisted_and_dropped, unlisted_and_reached};
 ghost use Rattle.resolved_runs.specs.Excluded.{unlisted_out_of_hops, vanished};
@@ -229,9 +230,10 @@ pub fn they_are_legal_without_mistakes()
 /// datagrams held with one stamp, one held twice, and one released twice; one that is held and
 /// isn't asked for, but another address is, or another station asks, or the request is a datagram,
 /// or the answer tells another address, or is another station's, or the request is on another
-/// cable; one given up of seventeen; one that was heard and is held, one heard or on its way in a
-/// frame to all or in an AARP frame, one held or given up for an address that nobody has, one held
-/// where no frame is pending, and one that another station took.
+/// cable; one given up of seventeen, and a request for names, a forward request and a datagram to a
+/// router's own address that were given up; one that was heard and is held, one heard or on its way
+/// in a frame to all or in an AARP frame, one held or given up for an address that nobody has, one
+/// held where no frame is pending, and one that another station took.
 pub fn laws_exclude_with_resolution()
     ensures counted { (¬ IsConservedResolved unmapped vanished)
         × (¬ IsConservedResolved unmapped held_and_put)
@@ -263,7 +265,10 @@ pub fn laws_exclude_with_resolution()
         × (¬ AreAskedFor unmapped asked_by_another) × (¬ AreAskedFor unmapped asked_in_a_datagram)
         × (¬ AreAskedFor unmapped another_told) × (¬ AreAskedFor unmapped told_by_another)
         × (¬ AreAskedFor unmapped asked_elsewhere) }
-    ensures given_up { ¬ IsNothingGivenUp unmapped full_ring }
+    ensures given_up { (¬ IsNothingGivenUp unmapped full_ring)
+        × (¬ IsNothingGivenUp unmapped request_given_up)
+        × (¬ IsNothingGivenUp unmapped forward_given_up_elsewhere)
+        × (¬ IsNothingGivenUp unmapped own_given_up) }
     ensures heard { (¬ AreHeardOrOnTheirWay unmapped heard_and_held)
         × (¬ AreHeardOrOnTheirWay unmapped heard_by_all)
         × (¬ AreHeardOrOnTheirWay unmapped (take 2 heard_by_all))

@@ -19,6 +19,7 @@ mod output;
 pub mod parts;
 mod passing;
 mod port;
+mod reading;
 mod route_rows;
 mod router;
 mod row;

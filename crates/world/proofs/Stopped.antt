@@ -1,11 +1,12 @@
 -- The stations after a step that was refused.
-use Rattle.std.proofs.Common.{◌≡◌, ◌⊎◌, inl, inr, ℕ, zero, suc, List, [], ◌∷◌, Option, Some, slice_get, slice_set, refl, ap, ◌∙◌, subst}
+use Rattle.std.proofs.Common.{◌≡◌, ◌≢◌, ◌⊎◌, Contains, arith, inl, inr, ℕ, zero, suc, List, [], ◌∷◌, Option, Some, slice_get, slice_set, refl, ap, ◌∙◌, subst}
 use Rattle.std.specs.Prelude.{Err, IfErr, IsOkUnless, Ok, Result}
 use Rattle.std.proofs.lemmas.Result.{IfErr-weaker}
 use Rattle.at_base.specs.declared.error.Error.{Error}
 use Rattle.at_base.specs.declared.error.Error.TheVariants.{Full, Memory}
 use Rattle.cable_model.specs.Logs.{pending_on}
 use Rattle.cable_model.specs.Outcomes.{IsLeast}
+use Rattle.cable_model.specs.Pending.{Pair}
 use Rattle.live_cables.specs.Living.{IsLossRefused, TakesIn, Wires}
 use Rattle.live_cables.specs.Steps.{HasNoRoom}
 use Rattle.live_node.specs.Living.{LivingNode, LiveHears as NodeHears}
@@ -59,6 +60,11 @@ module _ (ms : List (Member Living LivingNode)) (k stamp : ℕ) (old new : Wires
       → IfErr r (λ e. ((new ≡ old) × (after ≡ before)) ⊎ (TakesIt × IsLossRefused e old new)) → IfErr r TakesOrStays
   take_stopped r x = IfErr-weaker r _ _ takes_or_stays x
 
+-- Where there is a first pending frame, some are pending.
+some_pending : (pairs : List Pair) (stamp station : ℕ) → IsLeast pairs stamp station → pairs ≢ []
+some_pending pairs stamp station least = λ none.
+    (let there = subst (λ (l : List Pair). Contains l least.there.0) none least.there.1 in absurd (omega (arith, there.1)))
+
 -- The taking of the first frame was refused.
 pub first_stopped : (stamp station : ℕ) (ms now : List (Member Living LivingNode)) (old new : Wires) (e : Error)
     → IsLeast (pending_on old.cabling) stamp station → (HasNoRoom 1285 old.cabling → e ≡ Full)
@@ -66,7 +72,7 @@ pub first_stopped : (stamp station : ℕ) (ms now : List (Member Living LivingNo
     → ((now ≡ ms) × (new ≡ old)) ⊎ (IsTaker stamp station ms now old new × IsLossRefused e old new)
     → MayTake e ms now old new
 first_stopped stamp station ms now old new e least room full (inl same) =
-    inl (same.0, same.1, (λ is. subst (λ (w : Wires). HasNoRoom 1285 w.cabling) same.1 (full is), room))
+    inl (same.0, same.1, some_pending _ _ _ least, (λ is. subst (λ (w : Wires). HasNoRoom 1285 w.cabling) same.1 (full is), room))
 first_stopped stamp station ms now old new e least room full (inr taken) =
     inr (record { stamp = stamp; station = station; least = least; by = taken.0 }, taken.1)
 

@@ -1,8 +1,10 @@
 -- What a tick that was refused leaves: the steps before the refused one are done, and of the refused one only what is
 -- stated here.
-use Rattle.std.specs.Prelude.{◌≡◌, ◌⊎◌, ◌↔◌, ℕ, zero, suc, ◌+◌, ◌<◌, ◌≤◌, List, [], ◌∷◌, ◌++◌, Bool, Ok, Some, length, slice_get}
+use Rattle.std.specs.Prelude.{◌≡◌, ◌≢◌, ◌⊎◌, ◌↔◌, ℕ, IsTrue, zero, suc, ◌+◌, ◌<◌, ◌≤◌, List, [], ◌∷◌, ◌++◌, Bool, Ok, Some, length, slice_get}
+use Rattle.std.specs.List.{list_any}
 use Rattle.at_base.specs.declared.error.Error.{Error}
 use Rattle.at_base.specs.declared.error.Error.TheVariants.{Full, Memory}
+use Rattle.cable_model.specs.Logs.{pending_on}
 use Rattle.internet_file.specs.Files.{Planned}
 use Rattle.internet_file.specs.declared.action.Action.{Action}
 use Rattle.internet_file.specs.declared.action.Do.{Do}
@@ -18,7 +20,7 @@ use Rattle.station.specs.declared.member.Member.{Member}
 use Rattle.station.specs.declared.output.Output.{Output}
 use Rattle.world.specs.Acting.{tick_of}
 use Rattle.world.specs.Doing.{IsDone, acted_by, settled_own, station_for}
-use Rattle.world.specs.Losing.{loses_at}
+use Rattle.world.specs.Losing.{is_on, loses_at}
 use Rattle.world.specs.Passing.{AreAged, HasTicked, HavePassed}
 use Rattle.world.specs.Taking.{AreTaken, IsOne, IsTaken}
 use Rattle.world.specs.Ticking.{Begins}
@@ -113,12 +115,12 @@ pub record AreActing (e : Error) (plan : Planned) (stations : List (Member Livin
 
 -- ---- Frames are taken
 
--- The next frame wasn't taken and nothing changed, and the error is Full where there is no room to take it, and only there;
--- or it was taken, and not all frames were lost that are to be, and the error is Full where there is no room for another
--- loss, and only there.
+-- A frame was pending, none was taken and nothing changed, and the error is Full where there is no room to take it, and only
+-- there; or the next frame was taken, and not all frames were lost that are to be, and the error is Full where there is no
+-- room for another loss, and only there.
 abbrev pub MayTake : Error → List (Member Living LivingNode) → List (Member Living LivingNode) → Wires → Wires → Type 0
 MayTake e stations now old new =
-    ((now ≡ stations) × (new ≡ old) × ((e ≡ Full) ↔ HasNoRoom 1285 old.cabling))
+    ((now ≡ stations) × (new ≡ old) × (pending_on old.cabling ≢ []) × ((e ≡ Full) ↔ HasNoRoom 1285 old.cabling))
     ⊎ (IsTaken stations now old new × IsLossRefused e old new)
 
 -- Frames were taken, fewer than `most`, and the taking of the next one was refused.
@@ -174,12 +176,12 @@ abbrev pub IsUntouched : Worldly → Worldly → Type 0
 IsUntouched old new =
     (new.stations ≡ old.stations) × (new.wires ≡ old.wires) × (new.refused ≡ old.refused) × (new.schedule ≡ old.schedule)
 
--- A tick was refused out of memory before the first of its phases, or stopped in one of them.
+-- A tick with losses was refused out of memory before the first of its phases, or a tick was stopped in one of them.
 abbrev pub StopsTick : Error → Worldly → Worldly → Type 0
-StopsTick e old new = ((e ≡ Memory) × IsUntouched old new) ⊎ IsStopped e old new
+StopsTick e old new = ((e ≡ Memory) × IsTrue (list_any (is_on new.now) old.plan.losses) × IsUntouched old new) ⊎ IsStopped e old new
 
--- There was no tick, as an earlier one was refused by this error or the plan has no more ticks; or it was refused out of
--- memory before its phases; or it was stopped in one of them.
+-- There was no tick, as an earlier one was refused by this error or the plan has no more ticks; or it has losses and was
+-- refused out of memory before its phases; or it was stopped in one of them.
 abbrev pub MayStop : Error → Worldly → Worldly → Type 0
 MayStop e old new =
     (((old.stopped ≡ Some e) ⊎ (old.plan.ticks ≤ old.now)) × IsUntouched old new) ⊎ StopsTick e old new

@@ -1,6 +1,6 @@
 //! The cables that lose frames in a tick.
 
-ghost use Rattle.std.specs.Prelude.{◌≡◌, ◌||◌, ◌≤◌, ℕ, length, IfOk, IsOkUnless, IsTrue};
+ghost use Rattle.std.specs.Prelude.{◌≡◌, ◌||◌, ◌≤◌, ℕ, length, IfOk, IsOkUnless, IsTrue, OnErr};
 ghost use Rattle.std.specs.List.{list_all, list_any};
 ghost use Rattle.live_cables.specs.Steps.{loses_by};
 ghost use Rattle.world.specs.Losing as spec;
@@ -53,6 +53,8 @@ fn losing_by(alloc: Global, cables: usize, losses: &[Loss], now: u32) -> Result<
     ensures losing { IfOk result
         (λ losing. (cable : ℕ) → loses_by losing.items cable ≡ loses_in now losses.now cable) }
     ensures refused { IsOkUnless result Error.Memory }
+    // Where no loss includes the tick, no memory is needed.
+    ensures none { OnErr result (IsTrue (list_any (spec.is_on now) losses.now)) }
 {
     let mut losing = Vec::new(alloc);
     if !any_is_on(losses, now) {
@@ -69,6 +71,7 @@ pub fn losing_at(alloc: Global, plan: &Plan, now: u32) -> Result<Vec<bool>, Erro
     ensures losing { IfOk result
         (λ losing. (cable : ℕ) → loses_by losing.items cable ≡ loses_at plan.now now cable) }
     ensures refused { IsOkUnless result Error.Memory }
+    ensures none { OnErr result (IsTrue (list_any (spec.is_on now) plan.now.losses)) }
 {
     losing_by(alloc, plan.cables().len(), plan.losses(), now)
 }

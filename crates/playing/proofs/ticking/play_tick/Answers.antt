@@ -27,7 +27,7 @@ returns-clause-lived c =
 in_phase : (old new : Worldly) → old.stopped ≡ None → old.now < old.plan.ticks → MayStop Full old new → IsStopped Full old new
 in_phase old new going early (inl (inl stopped, same)) = absurd cc
 in_phase old new going early (inl (inr over, same)) = absurd (omega (arith, early, over))
-in_phase old new going early (inr (inl (memory, same))) = absurd cc
+in_phase old new going early (inr (inl (memory, losses, same))) = absurd cc
 in_phase old new going early (inr (inr stops)) = stops
 
 pub returns-clause-full : goal.returns-clause-full

@@ -1,5 +1,6 @@
 use Rattle.std.proofs.Common.{refl}
 use Rattle.resolved_runs.proofs.laws.laws_exclude_with_resolution.Goals as goal
+use Rattle.resolved_runs.proofs.Excluded.{no_body_given_up, no_forward_given_up, no_request_given_up}
 use Rattle.resolved_runs.proofs.Excluded.{never_forwarded, not_another_told, not_asked, not_asked_from_afar, not_at_rest, not_by_another}
 use Rattle.resolved_runs.proofs.Excluded.{not_forward_elsewhere, not_forward_given_up_elsewhere, not_looked_elsewhere}
 use Rattle.resolved_runs.proofs.Excluded.{not_given_up_for_nobody, not_heard_as_packet, not_heard_by_another, not_held_for_nobody}
@@ -27,7 +28,7 @@ returns c = record {
   once = (not_once, not_twice);
   put_once = not_released_twice;
   asked = (not_asked, not_for_another, not_by_another, not_in_a_datagram, not_another_told, not_told_by_another, not_elsewhere);
-  given_up = not_nothing;
+  given_up = (not_nothing, no_request_given_up, no_forward_given_up, no_body_given_up);
   heard = (
     not_heard_and_held,
     not_heard_by_all,

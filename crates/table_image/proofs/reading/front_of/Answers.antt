@@ -1,6 +1,6 @@
 use Rattle.std.proofs.Common.{refl}
 use Rattle.table_image.specs.Spelling.{front_spelling}
-use Rattle.table_image.proofs.image.front_of.Goals as goal
+use Rattle.table_image.proofs.reading.front_of.Goals as goal
 
 pub returns : goal.returns
 unfolding front_spelling
