@@ -4,9 +4,9 @@ use Rattle.at_base.specs.declared.error.Error.{Error}
 use Rattle.at_base.specs.declared.error.Error.TheVariants.{Memory, WriteFault}
 
 -- Of a play, by the failed writes before and after the call: first the capture is written, then the lines, and then the
--- image. WriteFault comes of a failed write, and a failed write is reported; after Ok none failed. Where the capture can't be written, neither lines nor
--- image are; where the lines can't, the image isn't. Nothing is written after a refusal, but perhaps a part of the capture
--- where memory ran out.
+-- image. WriteFault comes of a failed write, and a failed write is reported; after Ok none failed. Where the capture can't
+-- be written, neither lines nor image are; where the lines can't, the image isn't. Nothing is written after a refusal, but
+-- perhaps a part of the capture where memory ran out.
 pub record PlayWrote {A : Type 0} (SameLines SameImage SameCapture : Type 0) (before after image_before image_after : ℕ)
     (capture_before capture_after : ℕ) (result : Result A Error) : Type 0 where
   pub write_fault : result ≡ Err WriteFault → (after ≢ before) ⊎ (image_after ≢ image_before) ⊎ (capture_after ≢ capture_before)

@@ -192,12 +192,16 @@ pub fn capture_run<I: Read, S: Read, W: Write, C: Write>(
     ensures image_notes { Notes (I.remaining image.new.reader) image.old.faults image.new.faults
         image.old.fault image.new.fault image.old.reads image.new.reads image.old.ended image.new.ended }
     ensures held { image.new.kept ≡ image.old.kept }
+    ensures flawed { OnOk result (image.new.flawed ≡ image.old.flawed) }
     ensures script { Reads (S.remaining script.new.reader) script.old.faults script.new.faults
         script.new.fault script.new.reads script.old.ended script.new.ended result }
     ensures script_notes { Notes (S.remaining script.new.reader) script.old.faults script.new.faults
         script.old.fault script.new.fault script.old.reads script.new.reads script.old.ended script.new.ended }
     ensures script_held { (script.new.kept ≡ script.old.kept) × (script.new.image ≡ script.old.image)
         × (script.new.flawed ≡ script.old.flawed) }
+    // A call that answers `ReadFault` has found no end of the image, or none of the script.
+    ensures unended { result ≡ Err Error.ReadFault → (image.new.ended ≡ image.old.ended)
+        ⊎ (script.new.ended ≡ script.old.ended) }
     // Nothing is written before both were read to their ends.
     ensures begun { (output.new ≡ output.old)
         ⊎ (IsAtEnd (I.remaining image.new.reader) × IsAtEnd (S.remaining script.new.reader)) }

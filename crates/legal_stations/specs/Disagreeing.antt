@@ -37,9 +37,10 @@ over_the_first_cable = with_row (by_way_of (addr 20 2) 30 39 0)
 abbrev pub through_nobody : Holding
 through_nobody = with_row (by_way_of (addr 20 9) 30 39 1)
 
--- A row for a network that no cable has, and one that is direct.
+-- A row through the second router, for networks that no cable has.
 abbrev pub to_unlisted : Holding
 to_unlisted = with_row (by_way_of (addr 20 2) 50 59 1)
 
+-- A direct row for networks that no cable has.
 abbrev pub unlisted_there : Holding
 unlisted_there = with_row (direct 50 59 1)
