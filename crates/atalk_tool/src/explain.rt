@@ -1,7 +1,7 @@
 //! Explains a result to a person at a terminal. All of this runs after the result was printed, and
 //! writes only to standard error; if a write fails, nothing more is printed.
 
-ghost use Rattle.std.specs.Prelude.{◌≡◌};
+ghost use Rattle.std.specs.Prelude.{◌≡◌, None};
 
 use at_base::{Error, Part};
 use command_line::{Outcome, Source};
@@ -45,7 +45,9 @@ pub struct Evidence<'a> {
 impl<'a> Evidence<'a> {
     /// A source, if there is one, and nothing else.
     pub fn of(source: Option<Source<'a>>) -> Evidence<'a>
-        ensures { result.source ≡ source.entry }
+        ensures source { result.source ≡ source.entry }
+        ensures nothing { (result.fault ≡ None) × (result.bytes ≡ None) × (result.image ≡ None)
+            × (result.flawed ≡ None) × (result.unwritten ≡ None) × (result.replies ≡ None) }
     {
         Evidence {
             source,

@@ -1,7 +1,9 @@
 //! A run of the program.
 
-ghost use Rattle.std.specs.Prelude.{◌≡◌, Bool, Err, Some, if◌then◌else◌, is_some, ℕ};
+ghost use Rattle.std.specs.Prelude.{◌≡◌, Bool, Err, Ok, Some, false, if◌then◌else◌, is_some};
+ghost use Rattle.std.specs.Prelude.{ℕ};
 ghost use Rattle.clap.specs.Words.{kind_of};
+ghost use Rattle.at_base.specs.declared.error.Cause.{Cause};
 ghost use Rattle.command_line.specs.Exits.{exit_at};
 
 use crate::explain::{Evidence, explain, prompt};
@@ -103,6 +105,11 @@ fn evidence_of<'a, I: Drop, S: Drop>(
         ≡ Some (if is_some image.image then sources.entry.script else sources.entry.image) }
     ensures reason { answer.now ≡ Err Error.ReadFault → result.fault
         ≡ (if is_some image.image then script.fault else image.fault) }
+    // A no, and a flaw, are explained by the image.
+    ensures no { answer.now ≡ Ok false → (result.source ≡ Some sources.entry.image)
+        × (result.image ≡ image.image) }
+    ensures flaw { (place : ℕ) (cause : Cause) → answer.now ≡ Err (Error.BadImage place cause)
+        → (result.source ≡ Some sources.entry.image) × (result.flawed ≡ image.flawed) }
 {
     let by_script = match answer {
         Err(Error::BadScript(_)) => true,

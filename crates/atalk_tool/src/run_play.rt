@@ -1,6 +1,6 @@
 //! Plays internet files, from their sources to the outputs for their lines and images.
 
-ghost use Rattle.std.specs.Prelude.{◌≡◌, ◌==◌, None, if◌then◌else◌};
+ghost use Rattle.std.specs.Prelude.{◌≡◌, ◌==◌, None, if◌then◌else◌, is_some};
 
 use crate::explain::{Evidence, prompt};
 use crate::listening::Listening;
@@ -34,7 +34,9 @@ pub fn unwritten<'a, I>(output: &Output<I>, path: Option<&'a str>) -> Option<&'a
 }
 
 /// The first of two files, if there is one, and otherwise the second.
-fn first_of<'a>(first: Option<&'a str>, second: Option<&'a str>) -> Option<&'a str> {
+fn first_of<'a>(first: Option<&'a str>, second: Option<&'a str>) -> Option<&'a str>
+    ensures { result ≡ (if is_some first.entry then first.entry else second.entry) }
+{
     match first {
         Some(path) => Some(path),
         None => second,

@@ -1,6 +1,6 @@
 //! Tables files: makes the image of one, and prints that of an image, or its drawing.
 
-ghost use Rattle.std.specs.Prelude.{◌≡◌, true};
+ghost use Rattle.std.specs.Prelude.{◌≡◌, Err, IfErr, Ok, OnOk, true};
 
 use crate::explain::{Evidence, FileKind, prompt};
 use crate::performed::Performed;
@@ -95,7 +95,10 @@ pub fn make_source<'a, R: Files + Input + Print + Eprint + AllocGlobal>(
 }
 
 /// What came of printing: the program's answer is a yes wherever it was printed.
-fn answered(printed: Result<(), Error>) -> Result<bool, Error> {
+fn answered(printed: Result<(), Error>) -> Result<bool, Error>
+    ensures yes { OnOk printed (result ≡ Ok true) }
+    ensures error { IfErr printed (λ e. result ≡ Err e) }
+{
     match printed {
         Ok(()) => Ok(true),
         Err(error) => Err(error),

@@ -1,7 +1,7 @@
 //! A requester: it sends requests, sends them again while parts are missing, and gives up after a
 //! number of tries.
 
-ghost use Rattle.std.specs.Prelude.{◌≡◌, ◌≢◌, ◌⊎◌, ◌↔◌, ◌<◌, ◌≤◌, ◌+◌, ◌%◌, Some, None};
+ghost use Rattle.std.specs.Prelude.{◌≡◌, ◌≢◌, ◌==◌, ◌⊎◌, ◌↔◌, ◌<◌, ◌≤◌, ◌+◌, ◌%◌, Some, None};
 ghost use Rattle.std.specs.Prelude.{false, ℕ, length, IfOk, IfErr, IfNone, IfSome, IsOk, IsOkUnless};
 ghost use Rattle.std.specs.Prelude.{[], IsTrue, List, OnErr, OnOk, nat_le};
 ghost use Rattle.std.specs.Option.{option_map};
@@ -190,7 +190,8 @@ impl Requester {
 
     /// Whether no transaction is open, so that no request is ever due. Allocates nothing.
     pub fn is_idle(&self) -> bool
-        ensures { IsTrue result → repeats self.now.slots ≡ [] }
+        ensures count { result ≡ (open_count self.now.slots == 0) }
+        ensures none { IsTrue result → repeats self.now.slots ≡ [] }
     {
         self.table.is_empty()
     }

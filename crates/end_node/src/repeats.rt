@@ -1,9 +1,10 @@
 //! The requests for zones that a node sends again.
 
-ghost use Rattle.std.specs.Prelude.{◌≡◌, ◌≤◌, ◌+◌, ◌++◌, [], List, Option, length, map};
+ghost use Rattle.std.specs.Prelude.{◌≡◌, ◌==◌, ◌≤◌, ◌+◌, ◌++◌, [], List, Option, length, map};
 ghost use Rattle.std.specs.Prelude.{IsOk, IsOkUnless, IsTrue, OnErr, OnOk};
 ghost use Rattle.at_base.specs.declared.address.Addr.{Addr as AddrValue};
 ghost use Rattle.atp.specs.Repeating.{AreShort};
+ghost use Rattle.atp.specs.Requesting.{open_count};
 ghost use Rattle.end_node.specs.Repeating.{AreRenewed, repeated, repeats_by};
 ghost use Rattle.station.specs.Made.{AreMade};
 ghost use Rattle.station.specs.declared.output.Output.{Output as OutputValue};
@@ -82,7 +83,9 @@ impl EndNode {
     /// Whether no request for zones is open, so that the next tick makes none due. Allocates
     /// nothing.
     pub fn is_idle(&self) -> bool
-        ensures { IsTrue result → (own : Option AddrValue) → repeats_by own self.now.asks.slots ≡ [] }
+        ensures count { result ≡ (open_count self.now.asks.slots == 0) }
+        ensures none { IsTrue result → (own : Option AddrValue)
+            → repeats_by own self.now.asks.slots ≡ [] }
     {
         self.requester.is_idle()
     }
