@@ -199,7 +199,7 @@ pub fn capture_run<I: Read, S: Read, W: Write, C: Write>(
         script.old.fault script.new.fault script.old.reads script.new.reads script.old.ended script.new.ended }
     ensures script_held { (script.new.kept ≡ script.old.kept) × (script.new.image ≡ script.old.image)
         × (script.new.flawed ≡ script.old.flawed) }
-    // A call that answers `ReadFault` has found no end of the image, or none of the script.
+    // A call that answers `ReadFault` notes no end of the image, or none of the script.
     ensures unended { result ≡ Err Error.ReadFault → (image.new.ended ≡ image.old.ended)
         ⊎ (script.new.ended ≡ script.old.ended) }
     // Nothing is written before both were read to their ends.
