@@ -1,6 +1,6 @@
 //! The replies that the lines of a play or of a trace tell of.
 
-ghost use Rattle.std.specs.Prelude.{◌≡◌, false, true, IsOkUnless, OnErr};
+ghost use Rattle.std.specs.Prelude.{◌≡◌, false, true, IsOkUnless, OnErr, OnOk};
 
 use crate::deliveries::Deliveries;
 use crate::event::event_in;
@@ -48,46 +48,20 @@ impl Replies {
     /// taken in, since a line may be missing.
     pub fn take_in(&mut self, text: &[u8]) -> Result<(), Error>
         ensures refused { IsOkUnless result Error.Memory }
+        ensures goes_on { OnOk result (self.new ≡ false) }
         ensures stops { OnErr result (self.new ≡ true) }
         ensures stopped { self.old ≡ true → result ≡ Err Error.Memory }
     {
         if self.has_stopped {
             return Err(Error::Memory);
         }
-        match self.take_lines(text) {
+        match take_lines(&mut self.deliveries, &mut self.line, text) {
             Ok(()) => Ok(()),
             Err(error) => {
                 self.has_stopped = true;
                 Err(error)
             }
         }
-    }
-
-    /// Takes in the text, line by line.
-    fn take_lines(&mut self, text: &[u8]) -> Result<(), Error>
-        ensures { IsOkUnless result Error.Memory }
-    {
-        for piece in text.split_inclusive(|byte| *byte == b'\n') {
-            match piece {
-                [end @ .., b'\n'] => {
-                    self.line.append(end)?;
-                    self.end_line()?;
-                }
-                _ => self.line.append(piece)?,
-            }
-        }
-        Ok(())
-    }
-
-    /// Takes in the line that ended, and begins the next one.
-    fn end_line(&mut self) -> Result<(), Error>
-        ensures { IsOkUnless result Error.Memory }
-    {
-        if let Some(event) = event_in(self.line.as_slice()) {
-            self.deliveries.take_in(event)?;
-        }
-        self.line.clear();
-        Ok(())
     }
 
     /// Writes a line for each reply, in the order in which they were received, at most 100, and then
@@ -103,4 +77,31 @@ impl Replies {
             more => writeln!(writer, "and {more} more replies"),
         }
     }
+}
+
+/// Takes in the text, line by line. The line goes on where the last text ended.
+fn take_lines(deliveries: &mut Deliveries, line: &mut Line, text: &[u8]) -> Result<(), Error>
+    ensures { IsOkUnless result Error.Memory }
+{
+    for piece in text.split_inclusive(|byte| *byte == b'\n') {
+        match piece {
+            [end @ .., b'\n'] => {
+                line.append(end)?;
+                end_line(deliveries, line)?;
+            }
+            _ => line.append(piece)?,
+        }
+    }
+    Ok(())
+}
+
+/// Takes in the line that ended, and begins the next one.
+fn end_line(deliveries: &mut Deliveries, line: &mut Line) -> Result<(), Error>
+    ensures { IsOkUnless result Error.Memory }
+{
+    if let Some(event) = event_in(line.as_slice()) {
+        deliveries.take_in(event)?;
+    }
+    line.clear();
+    Ok(())
 }

@@ -7,7 +7,7 @@ use std::alloc::Global;
 use std::test::Fail;
 
 /// The play of examples/internets/two-routers.toml, and echo replies with one byte and with none; a
-/// refusal, an echo request, and no data.
+/// refusal, an echo request, no data, and a line with a word more.
 const PLAY: &[u8] = b"action 1 refused 8
 node 1 received 30.5 253 2 3101001E058101036C61620B4C6173657257726974657204426C7565
 node 1 received 30.5 128 4 0270696E67
@@ -15,6 +15,7 @@ node 1 received 30.5 128 4 0170696E67
 node 1 received 10.30 200 200 -
 node 2 received 10.30 200 4 0201
 node 2 received 10.30 200 4 02
+node 2 received 10.30 200 4 02 -
 yes: 3 cables, 2 routers, 2 nodes, 6 rows, greatest distance 1
 ";
 
@@ -141,32 +142,39 @@ fn take_times(replies: &mut Replies, text: &[u8], times: u32) -> Result<(), Erro
 
 const ECHO: &[u8] = b"node 1 received 30.5 128 4 0270696E67\n";
 
-/// The words for 70 replies that are put before one is taken, of which 64 are kept; for a line that
-/// is too long; and for 38 further replies, of which 36 are among the first 100.
-fn words_of_many(alloc: Global) -> Result<Vec<u8>, Error> {
+/// The words for 70 replies that are put before one is taken, of which 64 are kept; for two lines
+/// that are too long, of which one has the digits of a reply at its beginning, and a long piece
+/// after them; and for so many further replies, of which 36 are among the first 100.
+fn words_of_many(alloc: Global, further: u32) -> Result<Vec<u8>, Error> {
     let mut replies = Replies::new(alloc);
     let put = b"put 5 cable 1 10.1 to 10.7 08120000000A001E07058004040270696E67\n";
     take_times(&mut replies, put, 70)?;
     take_times(&mut replies, b"took 5 10.7\n", 70)?;
     take_times(&mut replies, b"node 1 ", 600)?;
+    replies.take_in(b"\nnode 1 received 30.5 128 4 02")?;
+    replies.take_in(&[b'0'; 4096])?;
     replies.take_in(b"\n")?;
-    take_times(&mut replies, ECHO, 38)?;
+    take_times(&mut replies, ECHO, further)?;
     written(alloc, &replies)
 }
 
-/// Whether the first 100 replies have a line each, and the others are counted.
-fn are_few(alloc: Global) -> Result<bool, Error> {
-    let words = match words_of_many(alloc) {
+/// Whether the first 100 replies have a line each, and the words end with that of the hundredth and
+/// this end, which counts the others.
+fn are_few(alloc: Global, further: u32, end: &[u8]) -> Result<bool, Error> {
+    let words = match words_of_many(alloc, further) {
         Ok(words) => words,
-        Err(_) => words_of_many(alloc)?,
+        Err(_) => words_of_many(alloc, further)?,
     };
     let words = words.as_slice();
     let lines = words.iter().filter(|byte| **byte == b'\n').count();
-    Ok(lines == 101 && words.ends_with(b"(4 bytes)\nand 2 more replies\n"))
+    let more = end.iter().filter(|byte| **byte == b'\n').count();
+    Ok(lines == 99 + more && words.ends_with(end))
 }
 
 #[test]
 fn the_first_hundred_are_kept(rt: HostRuntime) -> Result<(), Fail> {
-    assert!(rt; are_few(rt.alloc())?);
+    assert!(rt; are_few(rt.alloc(), 36, b"(4 bytes)\n")?);
+    assert!(rt; are_few(rt.alloc(), 37, b"(4 bytes)\nand 1 more reply\n")?);
+    assert!(rt; are_few(rt.alloc(), 38, b"(4 bytes)\nand 2 more replies\n")?);
     Ok(())
 }
