@@ -9,8 +9,8 @@ pub(crate) fn meaning(rule: u8) -> &'static str {
         }
         2 => {
             "each port and node has an address in its cable's range, a node number of 1 to 253, \
-             and a hardware address of a single station, and shares neither; \
-             a router has at most one port on a cable."
+             and a hardware address of a single station, and shares neither with another \
+             station; a router has at most one port on a cable."
         }
         3 => {
             "each row is Good or Suspect and has the range of a cable, \
