@@ -3,7 +3,7 @@
 ghost use Rattle.std.specs.Prelude.{◌≡◌, ◌≢◌, ◌⊎◌, ◌∷◌, ◌++◌};
 ghost use Rattle.std.specs.Prelude.{[], IfOk, IfErr, IfSome, OnOk};
 ghost use Rattle.std.specs.Prelude.{IsSomeAnd};
-ghost use Rattle.std.specs.Io.KnownBytes.{Appends};
+ghost use Rattle.std.specs.Io.KnownBytes.{Appends, IsAtEnd};
 ghost use Rattle.at_base.specs.Spelling.{Spells};
 ghost use Rattle.table_image.specs.Internet.{Internet};
 ghost use Rattle.table_image.specs.Spelling.{image_spelling};
@@ -49,6 +49,8 @@ pub fn audit_file<R: Read, W: Write>(
     ensures unended { result ≡ Err Error.ReadFault → input.new.ended ≡ input.old.ended }
     ensures held { input.new.kept ≡ input.old.kept }
     ensures flawed { OnOk result (input.new.flawed ≡ input.old.flawed) }
+    // Nothing is written before the input was read to its end.
+    ensures begun { (output.new ≡ output.old) ⊎ IsAtEnd (R.remaining input.new.reader) }
     ensures wrote { Wrote output.old.faults output.new.faults result }
     // After an error other than `WriteFault`, nothing was written.
     ensures nothing_written { IfErr result (λ e. e ≢ Error.WriteFault → output.new ≡ output.old) }

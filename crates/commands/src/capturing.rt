@@ -214,6 +214,8 @@ pub fn capture_run<I: Read, S: Read, W: Write, C: Write>(
         (i : Internet) × (steps : List StepValue) × Spells image_spelling bytes i
         × IsScript text steps × IsTraced i steps (W.contents output.old.writer)
         output.old.text.items (W.contents output.new.writer))) }
+    // The script is read only where the image was read to its end.
+    ensures in_order { (script.new ≡ script.old) ⊎ IsAtEnd (I.remaining image.new.reader) }
     ensures first { First (I.remaining image.old.reader) (script.new ≡ script.old)
         (IsSomeAnd image.new.image (λ i.
         IfSome (I.remaining image.old.reader) (λ bytes. Spells image_spelling bytes i))) result }

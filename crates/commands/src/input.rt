@@ -131,6 +131,7 @@ impl<R: Read> Input<R> {
         ensures found { IfOk result (λ n. n ≡ 0 → 0 < length buffer.old → IsSome self.new.ended) }
         ensures last { EndsReading self.old.ended self.new.ended self.new.reads }
         ensures goes_on { IfOk result (λ n. 0 < n → self.new.ended ≡ self.old.ended) }
+        ensures no_room { length buffer.old ≡ 0 → self.new.ended ≡ self.old.ended }
         ensures stays_so { OnErr result (self.new.ended ≡ self.old.ended) }
         ensures first { IsSome self.old.ended → self.new.ended ≡ self.old.ended }
         ensures kept { self.new.kept ≡ self.old.kept }

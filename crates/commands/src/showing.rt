@@ -1,7 +1,7 @@
 //! Shows and draws the tables of the image in an input.
 
 ghost use Rattle.std.specs.Prelude.{◌≡◌, ◌≢◌, ◌⊎◌, ◌++◌, [], Err, IfErr, IfSome, OnOk};
-ghost use Rattle.std.specs.Io.KnownBytes.{Appends};
+ghost use Rattle.std.specs.Io.KnownBytes.{Appends, IsAtEnd};
 ghost use Rattle.at_base.specs.Spelling.{Spells};
 ghost use Rattle.audit.specs.Verdicts.{Judges};
 ghost use Rattle.audit.specs.declared.verdict.Verdict.{Verdict};
@@ -64,6 +64,8 @@ pub fn show_image<R: Read, W: Write>(
     ensures held { input.new.kept ≡ input.old.kept }
     ensures image { input.new.image ≡ input.old.image }
     ensures flawed { OnOk result (input.new.flawed ≡ input.old.flawed) }
+    // Nothing is written before the input was read to its end.
+    ensures begun { (output.new ≡ output.old) ⊎ IsAtEnd (R.remaining input.new.reader) }
     ensures wrote { Wrote output.old.faults output.new.faults result }
     // After an error other than `WriteFault` and `Memory`, nothing was written.
     ensures nothing_written { IfErr result (λ e. e ≢ Error.WriteFault → e ≢ Error.Memory
@@ -122,6 +124,8 @@ pub fn draw_image<R: Read, W: Write>(
     ensures held { input.new.kept ≡ input.old.kept }
     ensures image { input.new.image ≡ input.old.image }
     ensures flawed { OnOk result (input.new.flawed ≡ input.old.flawed) }
+    // Nothing is written before the input was read to its end.
+    ensures begun { (output.new ≡ output.old) ⊎ IsAtEnd (R.remaining input.new.reader) }
     ensures wrote { Wrote output.old.faults output.new.faults result }
     // After an error other than `WriteFault` and `Memory`, nothing was written.
     ensures nothing_written { IfErr result (λ e. e ≢ Error.WriteFault → e ≢ Error.Memory

@@ -75,6 +75,8 @@ pub fn run_frozen<I: Read, S: Read, W: Write>(
     // After an error other than `WriteFault` and `Memory`, nothing was written.
     ensures nothing_written { IfErr result (λ e. e ≢ Error.WriteFault → e ≢ Error.Memory
         → output.new ≡ output.old) }
+    // The script is read only where the image was read to its end.
+    ensures in_order { (script.new ≡ script.old) ⊎ IsAtEnd (I.remaining image.new.reader) }
     ensures first { First (I.remaining image.old.reader) (script.new ≡ script.old)
         (IsSomeAnd image.new.image (λ i.
         IfSome (I.remaining image.old.reader) (λ bytes. Spells image_spelling bytes i))) result }

@@ -1,6 +1,6 @@
 //! Requests that are sent again.
 
-ghost use Rattle.std.specs.Prelude.{◌≡◌, ◌≤◌, ◌<◌, ◌⊎◌, ℕ, IfErr, IsSome, OnErr, OnOk, length, slice_get, take};
+ghost use Rattle.std.specs.Prelude.{◌≡◌, ◌≤◌, ◌<◌, ◌⊎◌, ℕ, IfErr, IsOk, IsSome, None, OnErr, OnOk, length, slice_get, take};
 ghost use Rattle.live_cables.specs.Putting.{AreAsked};
 ghost use Rattle.live_cables.specs.Steps.{HasNoRoom, Puts};
 
@@ -32,6 +32,8 @@ pub fn ask_all(
     ensures memory { result ≡ Err Error.Memory → HasNoRoom 1 cables.new → ⊥ }
     ensures no_room { IsSome (slice_get near.now.seats seat) → 1 ≤ length addrs.now
         → HasNoRoom 1 cables.old → result ≡ Err Error.Full }
+    ensures nobody { slice_get near.now.seats seat ≡ None
+        → IsOk result × (cables.new ≡ cables.old) }
     ensures refused { IfErr result (λ e. (e ≡ Error.Full) ⊎ (e ≡ Error.Memory)) }
 {
     match addrs {

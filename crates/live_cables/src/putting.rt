@@ -1,6 +1,6 @@
 //! Frames that a seat's station puts on its cable.
 
-ghost use Rattle.std.specs.Prelude.{◌≡◌, ◌<◌, ◌≤◌, ◌+◌, ◌⊎◌, ◌↔◌, true, length};
+ghost use Rattle.std.specs.Prelude.{◌≡◌, ◌<◌, ◌≤◌, ◌+◌, ◌⊎◌, ◌↔◌, None, true, length};
 ghost use Rattle.std.specs.Prelude.{IfErr, IsOk, IsSome, OnErr, OnOk, slice_get};
 ghost use Rattle.cable_model.specs.Outcomes.{is_seated};
 ghost use Rattle.cable_model.specs.Rooms.{held_rooms};
@@ -99,6 +99,9 @@ pub fn ask(
     ensures memory { result ≡ Err Error.Memory → HasNoRoom 1 cables.new → ⊥ }
     ensures no_room { IsSome (slice_get near.now.seats index) → HasNoRoom 1 cables.old
         → result ≡ Err Error.Full }
+    // Nobody asks where there is no seat.
+    ensures nobody { slice_get near.now.seats index ≡ None
+        → IsOk result × (cables.new ≡ cables.old) }
     ensures rooms { cables.new.rooms ≡ cables.old.rooms }
     ensures kept { OnErr result (cables.new ≡ cables.old) }
     ensures puts { Puts cables.old cables.new }
