@@ -3,6 +3,7 @@
 
 ghost use Rattle.std.specs.Prelude.{◌≡◌, None};
 
+use crate::outputs::Missed;
 use at_base::{Error, Part};
 use command_line::{Outcome, Source};
 use file_advice::{explain_entry, explain_tables};
@@ -35,7 +36,7 @@ pub struct Evidence<'a> {
     /// The byte at the first flaw of an image.
     pub flawed: Option<u8>,
     /// The file for the image or the capture, if it couldn't be written.
-    pub unwritten: Option<&'a str>,
+    pub missed: Option<Missed<'a>>,
     /// What an invalid file was read as.
     pub file: FileKind,
     /// The replies that the printed lines tell of, if they are to be explained.
@@ -47,7 +48,7 @@ impl<'a> Evidence<'a> {
     pub fn of(source: Option<Source<'a>>) -> Evidence<'a>
         ensures source { result.source ≡ source.entry }
         ensures nothing { (result.fault ≡ None) × (result.bytes ≡ None) × (result.image ≡ None)
-            × (result.flawed ≡ None) × (result.unwritten ≡ None) × (result.replies ≡ None) }
+            × (result.flawed ≡ None) × (result.missed ≡ None) × (result.replies ≡ None) }
     {
         Evidence {
             source,
@@ -55,7 +56,7 @@ impl<'a> Evidence<'a> {
             bytes: None,
             image: None,
             flawed: None,
-            unwritten: None,
+            missed: None,
             file: FileKind::Internet,
             replies: None,
         }
@@ -181,8 +182,10 @@ fn explain_error(
         Error::Full => eprintln!(rt;
             "atalk: more than 4000000 things happened in the play; plan fewer ticks or stations"
         ),
-        Error::WriteFault => match evidence.unwritten {
-            Some(path) => eprintln!(rt; "atalk: {path:?} cannot be written"),
+        Error::WriteFault => match evidence.missed {
+            Some(Missed { path, kind }) => {
+                eprintln!(rt; "atalk: {path:?} cannot be written: {}", explain_kind(kind))
+            }
             None => eprintln!(rt; "atalk: the answer cannot be written to standard output"),
         },
         Error::Memory => eprintln!(rt; "atalk: out of memory"),

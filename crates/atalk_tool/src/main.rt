@@ -4,7 +4,9 @@
 #![tactic(auto)]
 
 mod explain;
+mod files;
 mod listening;
+mod outputs;
 mod performed;
 mod run;
 mod run_play;

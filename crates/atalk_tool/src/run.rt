@@ -7,9 +7,11 @@ ghost use Rattle.at_base.specs.declared.error.Cause.{Cause};
 ghost use Rattle.command_line.specs.Exits.{exit_at};
 
 use crate::explain::{Evidence, explain, prompt};
+use crate::files::check_files;
 use crate::listening::Listening;
+use crate::outputs::{Outputs, Wanted};
 use crate::performed::Performed;
-use crate::run_play::{PlayJob, play_source, unwritten};
+use crate::run_play::{PlayJob, play_source};
 use crate::run_tables::{MakeJob, Printed, draw_source, make_source, print_source};
 use at_base::Error;
 use clap::error::ErrorKind as ParseError;
@@ -17,7 +19,7 @@ use command_line::{Job, Outcome, Source, exit_of, read_arguments};
 use commands::{audit_file, capture_run, run_frozen};
 use std::fs::File;
 use std::io;
-use std::io::{Read, Write, writer};
+use std::io::{Read, writer};
 use std::rt::{Env, Files};
 use text::Output;
 
@@ -30,13 +32,12 @@ pub struct Terminals {
     pub errors: bool,
 }
 
-/// The sources of the image and the script of a trace, and the file for its capture, if one is
-/// wanted.
+/// The sources of the image and the script of a trace, and the files that it is to write.
 #[derive(Clone, Copy)]
 struct Sources<'a> {
     image: Source<'a>,
     script: Source<'a>,
-    capture: Option<&'a str>,
+    wanted: Wanted<'a>,
 }
 
 /// The arguments, the program's own name first.
@@ -132,63 +133,42 @@ fn evidence_of<'a, I: Drop, S: Drop>(
 }
 
 /// Runs the script that one reader has over the image that the other has, and prints the trace on
-/// standard output.
-fn trace_readers<'a, R: Print + AllocGlobal, I: Read + Drop, S: Read + Drop>(
+/// standard output; the capture goes to an output.
+fn trace_readers<'a, R: Files + Print + AllocGlobal, I: Read + Drop, S: Read + Drop>(
     rt: &R,
     sources: Sources<'a>,
     image: I,
     script: S,
+    mut outputs: Outputs<'_, R>,
     terminals: Terminals,
 ) -> Performed<'a> {
     let mut image = commands::Input::new(image);
     let mut script = commands::Input::new(script);
     let listening = Listening::new(rt.alloc(), writer(rt), terminals.errors);
     let mut output = Output::new(rt.alloc(), listening);
-    let answer = run_frozen(rt.alloc(), &mut image, &mut script, &mut output);
-    let evidence = evidence_of(sources, &answer, image, script);
+    let answer = match sources.wanted.capture {
+        None => run_frozen(rt.alloc(), &mut image, &mut script, &mut output),
+        Some(_) => capture_run(
+            rt.alloc(),
+            &mut image,
+            &mut script,
+            &mut output,
+            &mut outputs.capture,
+        ),
+    };
+    let ended = outputs.end(rt, answer);
+    let evidence = evidence_of(sources, &ended.answer, image, script);
     Performed {
-        outcome: Outcome::Answered(answer),
+        outcome: Outcome::Answered(ended.answer),
         evidence: Evidence {
+            missed: sources.wanted.missed(ended.unwritten),
             replies: output.writer.replies,
             ..evidence
         },
     }
 }
 
-/// Runs the script that one reader has over the image that the other has, prints the trace on
-/// standard output, and writes the capture.
-fn capture_readers<'a, R: Print + AllocGlobal, I: Read + Drop, S: Read + Drop, C: Write + Drop>(
-    rt: &R,
-    sources: Sources<'a>,
-    image: I,
-    script: S,
-    capture: C,
-    terminals: Terminals,
-) -> Performed<'a> {
-    let mut image = commands::Input::new(image);
-    let mut script = commands::Input::new(script);
-    let listening = Listening::new(rt.alloc(), writer(rt), terminals.errors);
-    let mut output = Output::new(rt.alloc(), listening);
-    let mut capture = Output::new(rt.alloc(), capture);
-    let answer = capture_run(
-        rt.alloc(),
-        &mut image,
-        &mut script,
-        &mut output,
-        &mut capture,
-    );
-    let evidence = evidence_of(sources, &answer, image, script);
-    Performed {
-        outcome: Outcome::Answered(answer),
-        evidence: Evidence {
-            unwritten: unwritten(&capture, sources.capture),
-            replies: output.writer.replies,
-            ..evidence
-        },
-    }
-}
-
-/// Runs a script over an image, both of which are open. The file for the capture is created before
+/// Runs a script over an image, both of which are open. The file for the capture is looked at before
 /// either is read.
 fn trace_opened<'a, R: Files + Print + AllocGlobal, I: Read + Drop, S: Read + Drop>(
     rt: &R,
@@ -197,12 +177,9 @@ fn trace_opened<'a, R: Files + Print + AllocGlobal, I: Read + Drop, S: Read + Dr
     script: S,
     terminals: Terminals,
 ) -> Performed<'a> {
-    match sources.capture {
-        None => trace_readers(rt, sources, image, script, terminals),
-        Some(path) => match File::create(rt, path) {
-            Ok(file) => capture_readers(rt, sources, image, script, file, terminals),
-            Err(error) => Performed::not_created(path, error.kind()),
-        },
+    match Outputs::open(rt, sources.wanted) {
+        Ok(outputs) => trace_readers(rt, sources, image, script, outputs, terminals),
+        Err(performed) => performed,
     }
 }
 
@@ -281,49 +258,60 @@ fn refuse_arguments<'a>(rt: &impl Eprint, kind: io::ErrorKind) -> Performed<'a>
     Performed::without_source(Outcome::NoArguments(kind))
 }
 
+/// Performs a job whose files are different ones.
+fn perform<'a, R: Files + Input + Print + Eprint + AllocGlobal>(
+    rt: &R,
+    job: Job<'a>,
+    terminals: Terminals,
+) -> Performed<'a> {
+    match job {
+        Job::Audit(source) => audit_source(rt, source, terminals),
+        Job::Trace(image, script, capture) => {
+            let wanted = Wanted {
+                image: None,
+                capture,
+            };
+            let sources = Sources {
+                image,
+                script,
+                wanted,
+            };
+            trace_sources(rt, sources, terminals)
+        }
+        Job::Play(source, image, version, capture) => {
+            let wanted = Wanted { image, capture };
+            let job = PlayJob {
+                source,
+                wanted,
+                version,
+            };
+            play_source(rt, job, terminals)
+        }
+        Job::Make(source, image) => {
+            let wanted = Wanted {
+                image,
+                capture: None,
+            };
+            make_source(rt, MakeJob { source, wanted }, terminals)
+        }
+        Job::Show(source) => print_source(rt, source, Printed::Tables, terminals),
+        Job::Draw(source, to) => draw_source(rt, source, to, terminals),
+    }
+}
+
 /// Performs the job that the arguments ask for, and returns the exit status.
 fn run_arguments<R: Files + Input + Print + Eprint + AllocGlobal>(
     rt: &R,
     arguments: &[String],
     terminals: Terminals,
 ) -> u8 {
-    match read_arguments(rt.alloc(), arguments) {
-        Ok(Job::Audit(source)) => {
-            let performed = audit_source(rt, source, terminals);
-            answer(rt, &performed, terminals)
-        }
-        Ok(Job::Trace(image, script, capture)) => {
-            let sources = Sources {
-                image,
-                script,
-                capture,
-            };
-            let performed = trace_sources(rt, sources, terminals);
-            answer(rt, &performed, terminals)
-        }
-        Ok(Job::Play(source, image, version, capture)) => {
-            let job = PlayJob {
-                source,
-                image,
-                version,
-                capture,
-            };
-            let performed = play_source(rt, job, terminals);
-            answer(rt, &performed, terminals)
-        }
-        Ok(Job::Make(source, image)) => {
-            let performed = make_source(rt, MakeJob { source, image }, terminals);
-            answer(rt, &performed, terminals)
-        }
-        Ok(Job::Show(source)) => {
-            let performed = print_source(rt, source, Printed::Tables, terminals);
-            answer(rt, &performed, terminals)
-        }
-        Ok(Job::Draw(source, to)) => {
-            let performed = draw_source(rt, source, to, terminals);
-            answer(rt, &performed, terminals)
-        }
-        Err(error) => answer(rt, &print_answer(rt, &error), terminals),
+    let job = match read_arguments(rt.alloc(), arguments) {
+        Ok(job) => job,
+        Err(error) => return answer(rt, &print_answer(rt, &error), terminals),
+    };
+    match check_files(rt, &job) {
+        Ok(()) => answer(rt, &perform(rt, job, terminals), terminals),
+        Err(refused) => answer(rt, &refused, terminals),
     }
 }
 

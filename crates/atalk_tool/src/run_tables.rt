@@ -3,16 +3,15 @@
 ghost use Rattle.std.specs.Prelude.{◌≡◌, Err, IfErr, Ok, OnOk, true};
 
 use crate::explain::{Evidence, FileKind, prompt};
+use crate::outputs::{Outputs, Wanted};
 use crate::performed::Performed;
 use crate::run::Terminals;
-use crate::run_play::unwritten;
 use at_base::Error;
 use clap::error::ErrorKind as ParseError;
 use command_line::{Outcome, Source};
 use commands::{draw_image, make_bytes, show_image};
 use std::fs::File;
-use std::io;
-use std::io::{Read, Write, writer};
+use std::io::{Read, writer};
 use std::rt::Files;
 use text::Output;
 use text::number::number;
@@ -21,7 +20,7 @@ use text::number::number;
 #[derive(Clone, Copy)]
 pub struct MakeJob<'a> {
     pub source: Source<'a>,
-    pub image: Option<&'a str>,
+    pub wanted: Wanted<'a>,
 }
 
 /// What is printed of an image.
@@ -34,43 +33,40 @@ pub enum Printed {
 }
 
 /// Makes the image of the tables file that the reader has, and prints the line of its verdict on
-/// standard output; the image goes to a writer.
-fn make_reader<'a, R: Print + AllocGlobal, S: Read + Drop, I: Write + Drop>(
+/// standard output; the image goes to an output.
+fn make_reader<'a, R: Files + Print + AllocGlobal, S: Read + Drop>(
     rt: &R,
     job: MakeJob<'a>,
     reader: S,
-    image: I,
+    mut outputs: Outputs<'_, R>,
 ) -> Performed<'a> {
     let mut input = commands::Input::new(reader);
     let mut output = Output::new(rt.alloc(), writer(rt));
-    let mut image = Output::new(rt.alloc(), image);
-    let answer = make_bytes(rt.alloc(), &mut input, &mut output, &mut image);
+    let answer = make_bytes(rt.alloc(), &mut input, &mut output, &mut outputs.image);
+    let ended = outputs.end(rt, answer);
     let commands::Input { fault, kept, .. } = input;
     Performed {
-        outcome: Outcome::Answered(answer),
+        outcome: Outcome::Answered(ended.answer),
         evidence: Evidence {
             fault,
             bytes: kept,
-            unwritten: unwritten(&image, job.image),
+            missed: job.wanted.missed(ended.unwritten),
             file: FileKind::Tables,
             ..Evidence::of(Some(job.source))
         },
     }
 }
 
-/// Makes the image of the tables file that the reader has. The file for the image is created before
+/// Makes the image of the tables file that the reader has. The file for the image is looked at before
 /// anything is read.
 fn make_into<'a, R: Files + Print + AllocGlobal, S: Read + Drop>(
     rt: &R,
     job: MakeJob<'a>,
     reader: S,
 ) -> Performed<'a> {
-    match job.image {
-        None => make_reader(rt, job, reader, io::sink()),
-        Some(path) => match File::create(rt, path) {
-            Ok(file) => make_reader(rt, job, reader, file),
-            Err(error) => Performed::not_created(path, error.kind()),
-        },
+    match Outputs::open(rt, job.wanted) {
+        Ok(outputs) => make_reader(rt, job, reader, outputs),
+        Err(performed) => performed,
     }
 }
 

@@ -70,10 +70,10 @@ const SCRIPT: &str = "The script; - is standard input";
 
 const INTERNET: &str = "The internet file; - is standard input";
 
-const OUT: &str = "Where the image of the tables goes";
+const OUT: &str = "The file for the image of the tables, which may not be -";
 
 const CAPTURE: &str =
-    "Where a capture of what is put on the cables goes, in pcapng, which Wireshark reads";
+    "The file for a capture of the cables, in pcapng, for Wireshark, which may not be -";
 
 const VERSION_2: &str =
     "Writes the image in version 2, with each station's mappings; without it the image is of \

@@ -14,6 +14,11 @@ pub fn explain_kind(kind: ErrorKind) -> &'static str {
         ErrorKind::FilesystemLoop => "its symbolic links form a loop",
         ErrorKind::InvalidFilename => "its name is too long",
         ErrorKind::OutOfMemory => "out of memory",
+        ErrorKind::StorageFull => "the disk is full",
+        ErrorKind::QuotaExceeded => "the disk quota is used up",
+        ErrorKind::FileTooLarge => "the file would be too large",
+        ErrorKind::ReadOnlyFilesystem => "the disk is read-only",
+        ErrorKind::BrokenPipe => "its reader is gone",
         _ => "the system reports an error",
     }
 }
