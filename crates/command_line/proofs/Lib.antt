@@ -3,3 +3,4 @@ mod CommandLine
 mod Operands
 mod PlayLine
 mod TablesLine
+mod Forms

@@ -9,7 +9,9 @@ use Rattle.command_line.specs.declared.arguments.Job.{Job}
 use Rattle.command_line.specs.declared.arguments.Job.TheVariants.{Audit, Draw, Make, Play, Show, Trace}
 use Rattle.command_line.specs.declared.arguments.Source.{Source}
 use Rattle.command_line.specs.declared.arguments.Source.TheVariants.{StandardInput, File}
-use Rattle.table_image.specs.declared.version.Version.{Version}
+use Rattle.clap.specs.declared.error.ErrorKind.{ErrorKind}
+use Rattle.clap.specs.declared.error.ErrorKind.TheVariants.{DisplayHelp, DisplayVersion}
+use Rattle.table_image.specs.declared.version.Version.{Version as ImageVersion}
 use Rattle.table_image.specs.declared.version.Version.TheVariants.{V2}
 
 -- A required operand.
@@ -95,13 +97,13 @@ Traces image script capture (Trace i s c) =
 Traces image script capture _ = ⊥
 
 -- The version that is asked for by this value of `--v2`: version 2 if it is given.
-abbrev pub version_by : Option Text → Option Version
+abbrev pub version_by : Option Text → Option ImageVersion
 version_by None = None
 version_by (Some text) = if bytes_eq text (codes "true") then Some V2 else None
 
 -- The job is a play of the source in the first text, whose image is written to the file in the second text, if there is
 -- one, and has this version, if one is asked for; its capture is written to the file in the third text, if there is one.
-abbrev pub Plays : Option Text → Option Text → Option Version → Option Text → Job → Type 0
+abbrev pub Plays : Option Text → Option Text → Option ImageVersion → Option Text → Job → Type 0
 Plays file out version capture (Play source image asked c) =
     Names file source × (option_map (λ path. path.now) image ≡ out) × (asked ≡ version)
     × (option_map (λ path. path.now) c ≡ capture)
@@ -170,7 +172,7 @@ pub data Place : Type 0 where
   AtEnd : Place
 
 -- The version that is asked for by `--v2` in this place.
-abbrev pub version_at : Place → Option Version
+abbrev pub version_at : Place → Option ImageVersion
 version_at Nowhere = None
 version_at BeforeFile = Some V2
 version_at AfterFile = Some V2
@@ -201,3 +203,96 @@ capture_words file capture = file ∷ codes "--capture" ∷ capture ∷ []
 -- The words of a play of a file whose image is written to a file, and whose capture to another.
 abbrev pub capture_to_words : Text → Text → Text → List Text
 capture_to_words file out capture = file ∷ codes "--image" ∷ out ∷ codes "--capture" ∷ capture ∷ []
+
+-- What is written after the program's name to ask for a job, with its operands in their order.
+pub data Form : Type 0 where
+  -- `audit FILE`
+  AuditForm : Text → Form
+  -- `trace IMAGE SCRIPT`, and the same with `--capture OUT`
+  TraceForm : Text → Text → Form
+  TraceTo : Text → Text → Text → Form
+  -- `play FILE`, and the same with `--image OUT`, with `--v2` in its place
+  PlayForm : Place → Text → Form
+  PlayTo : Place → Text → Text → Form
+  -- `play FILE --capture CAPTURE`, and the same with `--image OUT` before it
+  CaptureForm : Text → Text → Form
+  CaptureTo : Text → Text → Text → Form
+  -- `make FILE`, and the same with `--image OUT`
+  MakeForm : Text → Form
+  MakeTo : Text → Text → Form
+  -- `show IMAGE`
+  ShowForm : Text → Form
+  -- `draw IMAGE`, and the same with `--to NET`
+  DrawForm : Text → Form
+  DrawTo : Text → Text → Form
+
+-- The words of a form.
+abbrev pub words_of : Form → List Text
+words_of (AuditForm file) = codes "audit" ∷ file ∷ []
+words_of (TraceForm image script) = codes "trace" ∷ image ∷ script ∷ []
+words_of (TraceTo image script out) = codes "trace" ∷ trace_to_words image script out
+words_of (PlayForm place file) = codes "play" ∷ play_words place file
+words_of (PlayTo place file out) = codes "play" ∷ play_to_words place file out
+words_of (CaptureForm file capture) = codes "play" ∷ capture_words file capture
+words_of (CaptureTo file out capture) = codes "play" ∷ capture_to_words file out capture
+words_of (MakeForm file) = codes "make" ∷ file ∷ []
+words_of (MakeTo file out) = codes "make" ∷ file ∷ codes "--image" ∷ out ∷ []
+words_of (ShowForm image) = codes "show" ∷ image ∷ []
+words_of (DrawForm image) = codes "draw" ∷ image ∷ []
+words_of (DrawTo image net) = codes "draw" ∷ image ∷ codes "--to" ∷ net ∷ []
+
+-- The operands of a form.
+abbrev pub operands_of : Form → List Text
+operands_of (AuditForm file) = file ∷ []
+operands_of (TraceForm image script) = image ∷ script ∷ []
+operands_of (TraceTo image script out) = image ∷ script ∷ out ∷ []
+operands_of (PlayForm place file) = file ∷ []
+operands_of (PlayTo place file out) = file ∷ out ∷ []
+operands_of (CaptureForm file capture) = file ∷ capture ∷ []
+operands_of (CaptureTo file out capture) = file ∷ out ∷ capture ∷ []
+operands_of (MakeForm file) = file ∷ []
+operands_of (MakeTo file out) = file ∷ out ∷ []
+operands_of (ShowForm image) = image ∷ []
+operands_of (DrawForm image) = image ∷ []
+operands_of (DrawTo image net) = image ∷ net ∷ []
+
+-- None of the arguments is a flag.
+abbrev pub AreOperands : List Text → Type 0
+AreOperands [] = Unit {0}
+AreOperands (text ∷ texts) = (is_operand text ≡ true) × AreOperands texts
+
+-- The job is the one that a form asks for.
+abbrev pub Asks : Form → Job → Type 0
+Asks (AuditForm file) job = Audits (Some file) job
+Asks (TraceForm image script) job = Traces (Some image) (Some script) None job
+Asks (TraceTo image script out) job = Traces (Some image) (Some script) (Some out) job
+Asks (PlayForm place file) job = Plays (Some file) None (version_at place) None job
+Asks (PlayTo place file out) job = Plays (Some file) (Some out) (version_at place) None job
+Asks (CaptureForm file capture) job = Plays (Some file) None None (Some capture) job
+Asks (CaptureTo file out capture) job = Plays (Some file) (Some out) None (Some capture) job
+Asks (MakeForm file) job = Makes (Some file) None job
+Asks (MakeTo file out) job = Makes (Some file) (Some out) job
+Asks (ShowForm image) job = Shows (Some image) job
+Asks (DrawForm image) job = Draws (Some image) None job
+Asks (DrawTo image net) job = Draws (Some image) (Some net) job
+
+-- A flag that asks for a text about the program.
+pub data About : Type 0 where
+  Help : About
+  ShortHelp : About
+  Version : About
+  ShortVersion : About
+
+-- The word of such a flag.
+abbrev pub about_word : About → Text
+about_word Help = codes "--help"
+about_word ShortHelp = codes "-h"
+about_word Version = codes "--version"
+about_word ShortVersion = codes "-V"
+
+-- The kind of the error by which clap prints the text.
+abbrev pub about_kind : About → ErrorKind
+about_kind Help = DisplayHelp
+about_kind ShortHelp = DisplayHelp
+about_kind Version = DisplayVersion
+about_kind ShortVersion = DisplayVersion

@@ -1,17 +1,14 @@
 //! Reads the arguments of the command line.
 
 ghost use Rattle.std.specs.Prelude.{◌≡◌, ◌≢◌, ◌⊎◌, ◌≤◌, ◌∷◌};
-ghost use Rattle.std.specs.Prelude.{List, ℕ, [], None, false, true, codes, length, map};
-ghost use Rattle.std.specs.Prelude.{IfOk, IfErr, IsErrAnd, IsTrue, Some, option_map};
+ghost use Rattle.std.specs.Prelude.{List, ℕ, [], None, true, codes, length, map};
+ghost use Rattle.std.specs.Prelude.{IfOk, IfErr, IsErrAnd, Some, option_map};
 ghost use Rattle.clap.specs.Words.{FailsBy, fault_of, first_of, found_of, kind_of, rows_of};
 ghost use Rattle.clap.specs.Words.{subcommand_of, subcommand_rows_of, takes};
-ghost use Rattle.clap.specs.declared.error.ErrorKind.TheVariants.{DisplayHelp, DisplayVersion};
 ghost use Rattle.clap.specs.declared.error.ErrorKind.TheVariants.{OutOfMemory};
-ghost use Rattle.command_line.specs.Arguments.{Audits, Draws, IsMeant, IsMeantBy, Makes, Names};
-ghost use Rattle.command_line.specs.Arguments.{Place, Plays, Shows, Traces, asked, atalk_app};
-ghost use Rattle.command_line.specs.Arguments.{capture_to_words, capture_words, is_operand};
-ghost use Rattle.command_line.specs.Arguments.{play_to_words, play_words, trace_to_words, version_at};
-ghost use Rattle.command_line.specs.Arguments.{version_by};
+ghost use Rattle.command_line.specs.Arguments.{About, AreOperands, Asks, Form, IsMeant, IsMeantBy};
+ghost use Rattle.command_line.specs.Arguments.{Names, about_kind, about_word, asked, atalk_app};
+ghost use Rattle.command_line.specs.Arguments.{operands_of, version_by, words_of};
 
 use crate::syntax::atalk_command;
 use clap::{ArgMatches, Error};
@@ -62,121 +59,17 @@ pub fn read_arguments<'a, S: AsStr>(alloc: Global, arguments: &'a [S]) -> Result
     // Arguments that the parse takes have no error but out of memory.
     ensures taken { takes atalk_app (map S.text arguments.entry.now) ≡ true
         → IfErr result (λ e. kind_of e ≡ OutOfMemory) }
-    // `audit FILE` is an audit of FILE; the only error is out of memory.
-    ensures audit { (name file : List ℕ)
-        → map S.text arguments.entry.now ≡ name ∷ codes "audit" ∷ file ∷ []
-        → IsTrue (is_operand file) → IfOk result (Audits (Some file)) }
-    ensures audit_err { (name file : List ℕ)
-        → map S.text arguments.entry.now ≡ name ∷ codes "audit" ∷ file ∷ []
-        → IsTrue (is_operand file) → IfErr result (λ e. kind_of e ≡ OutOfMemory) }
-    // `trace IMAGE SCRIPT` is a trace of them; the only error is out of memory.
-    ensures trace { (name image script : List ℕ)
-        → map S.text arguments.entry.now ≡ name ∷ codes "trace" ∷ image ∷ script ∷ []
-        → IsTrue (is_operand image) → IsTrue (is_operand script)
-        → IfOk result (Traces (Some image) (Some script) None) }
-    ensures trace_err { (name image script : List ℕ)
-        → map S.text arguments.entry.now ≡ name ∷ codes "trace" ∷ image ∷ script ∷ []
-        → IsTrue (is_operand image) → IsTrue (is_operand script)
-        → IfErr result (λ e. kind_of e ≡ OutOfMemory) }
-    // `trace IMAGE SCRIPT --capture OUT` is one whose capture is written to OUT; the only error is
-    // out of memory.
-    ensures trace_to { (name image script out : List ℕ)
-        → map S.text arguments.entry.now ≡ name ∷ codes "trace" ∷ trace_to_words image script out
-        → IsTrue (is_operand image) → IsTrue (is_operand script) → IsTrue (is_operand out)
-        → IfOk result (Traces (Some image) (Some script) (Some out)) }
-    ensures trace_to_err { (name image script out : List ℕ)
-        → map S.text arguments.entry.now ≡ name ∷ codes "trace" ∷ trace_to_words image script out
-        → IsTrue (is_operand image) → IsTrue (is_operand script) → IsTrue (is_operand out)
-        → IfErr result (λ e. kind_of e ≡ OutOfMemory) }
-    // `play FILE` is a play of FILE whose image isn't written, and `play FILE --image OUT` is one
-    // whose image is written to OUT. With `--v2`, before FILE, right after it or at the end, the
-    // image is asked for in version 2. The only error is out of memory.
-    ensures play { (name file : List ℕ) (place : Place)
-        → map S.text arguments.entry.now ≡ name ∷ codes "play" ∷ play_words place file
-        → IsTrue (is_operand file) → IfOk result (Plays (Some file) None (version_at place) None) }
-    ensures play_err { (name file : List ℕ) (place : Place)
-        → map S.text arguments.entry.now ≡ name ∷ codes "play" ∷ play_words place file
-        → IsTrue (is_operand file) → IfErr result (λ e. kind_of e ≡ OutOfMemory) }
-    ensures play_to { (name file out : List ℕ) (place : Place)
-        → map S.text arguments.entry.now ≡ name ∷ codes "play" ∷ play_to_words place file out
-        → IsTrue (is_operand file) → IsTrue (is_operand out)
-        → IfOk result (Plays (Some file) (Some out) (version_at place) None) }
-    ensures play_to_err { (name file out : List ℕ) (place : Place)
-        → map S.text arguments.entry.now ≡ name ∷ codes "play" ∷ play_to_words place file out
-        → IsTrue (is_operand file) → IsTrue (is_operand out)
-        → IfErr result (λ e. kind_of e ≡ OutOfMemory) }
-    // `play FILE --capture CAPTURE` is a play whose capture is written to CAPTURE, and `play FILE
-    // --image OUT --capture CAPTURE` one whose image is written too. The only error is out of memory.
-    ensures capture { (name file capture : List ℕ)
-        → map S.text arguments.entry.now ≡ name ∷ codes "play" ∷ capture_words file capture
-        → IsTrue (is_operand file) → IsTrue (is_operand capture)
-        → IfOk result (Plays (Some file) None None (Some capture)) }
-    ensures capture_err { (name file capture : List ℕ)
-        → map S.text arguments.entry.now ≡ name ∷ codes "play" ∷ capture_words file capture
-        → IsTrue (is_operand file) → IsTrue (is_operand capture)
-        → IfErr result (λ e. kind_of e ≡ OutOfMemory) }
-    ensures capture_to { (name file out capture : List ℕ)
-        → map S.text arguments.entry.now ≡ name ∷ codes "play" ∷ capture_to_words file out capture
-        → IsTrue (is_operand file) → IsTrue (is_operand out) → IsTrue (is_operand capture)
-        → IfOk result (Plays (Some file) (Some out) None (Some capture)) }
-    ensures capture_to_err { (name file out capture : List ℕ)
-        → map S.text arguments.entry.now ≡ name ∷ codes "play" ∷ capture_to_words file out capture
-        → IsTrue (is_operand file) → IsTrue (is_operand out) → IsTrue (is_operand capture)
-        → IfErr result (λ e. kind_of e ≡ OutOfMemory) }
-    // `make FILE` makes an image of FILE that isn't written, and `make FILE --image OUT` one that is
-    // written to OUT. The only error is out of memory.
-    ensures make { (name file : List ℕ)
-        → map S.text arguments.entry.now ≡ name ∷ codes "make" ∷ file ∷ []
-        → IsTrue (is_operand file) → IfOk result (Makes (Some file) None) }
-    ensures make_err { (name file : List ℕ)
-        → map S.text arguments.entry.now ≡ name ∷ codes "make" ∷ file ∷ []
-        → IsTrue (is_operand file) → IfErr result (λ e. kind_of e ≡ OutOfMemory) }
-    ensures make_to { (name file out : List ℕ)
-        → map S.text arguments.entry.now
-        ≡ name ∷ codes "make" ∷ file ∷ codes "--image" ∷ out ∷ []
-        → IsTrue (is_operand file) → IsTrue (is_operand out)
-        → IfOk result (Makes (Some file) (Some out)) }
-    ensures make_to_err { (name file out : List ℕ)
-        → map S.text arguments.entry.now
-        ≡ name ∷ codes "make" ∷ file ∷ codes "--image" ∷ out ∷ []
-        → IsTrue (is_operand file) → IsTrue (is_operand out)
-        → IfErr result (λ e. kind_of e ≡ OutOfMemory) }
-    // `show IMAGE` shows the tables of IMAGE; the only error is out of memory.
-    ensures show { (name image : List ℕ)
-        → map S.text arguments.entry.now ≡ name ∷ codes "show" ∷ image ∷ []
-        → IsTrue (is_operand image) → IfOk result (Shows (Some image)) }
-    ensures show_err { (name image : List ℕ)
-        → map S.text arguments.entry.now ≡ name ∷ codes "show" ∷ image ∷ []
-        → IsTrue (is_operand image) → IfErr result (λ e. kind_of e ≡ OutOfMemory) }
-    // `draw IMAGE` draws IMAGE, and `draw IMAGE --to NET` also the ways to NET. The only error is
-    // out of memory.
-    ensures draw { (name image : List ℕ)
-        → map S.text arguments.entry.now ≡ name ∷ codes "draw" ∷ image ∷ []
-        → IsTrue (is_operand image) → IfOk result (Draws (Some image) None) }
-    ensures draw_err { (name image : List ℕ)
-        → map S.text arguments.entry.now ≡ name ∷ codes "draw" ∷ image ∷ []
-        → IsTrue (is_operand image) → IfErr result (λ e. kind_of e ≡ OutOfMemory) }
-    ensures draw_to { (name image net : List ℕ)
-        → map S.text arguments.entry.now
-        ≡ name ∷ codes "draw" ∷ image ∷ codes "--to" ∷ net ∷ []
-        → IsTrue (is_operand image) → IsTrue (is_operand net)
-        → IfOk result (Draws (Some image) (Some net)) }
-    ensures draw_to_err { (name image net : List ℕ)
-        → map S.text arguments.entry.now
-        ≡ name ∷ codes "draw" ∷ image ∷ codes "--to" ∷ net ∷ []
-        → IsTrue (is_operand image) → IsTrue (is_operand net)
-        → IfErr result (λ e. kind_of e ≡ OutOfMemory) }
+    // Arguments of one of the forms ask for its job; the only error is out of memory.
+    ensures written { (name : List ℕ) (form : Form)
+        → map S.text arguments.entry.now ≡ name ∷ words_of form
+        → AreOperands (operands_of form) → IfOk result (Asks form) }
+    ensures written_err { (name : List ℕ) (form : Form)
+        → map S.text arguments.entry.now ≡ name ∷ words_of form
+        → AreOperands (operands_of form) → IfErr result (λ e. kind_of e ≡ OutOfMemory) }
     // `--help`, `-h`, `--version` and `-V` return the errors `DisplayHelp` and `DisplayVersion`.
-    ensures help { (name : List ℕ) → map S.text arguments.entry.now ≡ name ∷ codes "--help" ∷ []
-        → IsErrAnd result (λ e. (kind_of e ≡ DisplayHelp) ⊎ (kind_of e ≡ OutOfMemory)) }
-    ensures help_short { (name : List ℕ) → map S.text arguments.entry.now ≡ name ∷ codes "-h" ∷ []
-        → IsErrAnd result (λ e. (kind_of e ≡ DisplayHelp) ⊎ (kind_of e ≡ OutOfMemory)) }
-    ensures version { (name : List ℕ)
-        → map S.text arguments.entry.now ≡ name ∷ codes "--version" ∷ []
-        → IsErrAnd result (λ e. (kind_of e ≡ DisplayVersion) ⊎ (kind_of e ≡ OutOfMemory)) }
-    ensures version_short { (name : List ℕ)
-        → map S.text arguments.entry.now ≡ name ∷ codes "-V" ∷ []
-        → IsErrAnd result (λ e. (kind_of e ≡ DisplayVersion) ⊎ (kind_of e ≡ OutOfMemory)) }
+    ensures about { (name : List ℕ) (about : About)
+        → map S.text arguments.entry.now ≡ name ∷ about_word about ∷ []
+        → IsErrAnd result (λ e. (kind_of e ≡ about_kind about) ⊎ (kind_of e ≡ OutOfMemory)) }
 {
     let matches = atalk_command(alloc)?.try_get_matches_from(arguments)?;
     Ok(job_of(&matches))

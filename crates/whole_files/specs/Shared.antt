@@ -1,8 +1,7 @@
 -- Which files of a command are one.
-use Rattle.std.specs.Prelude.{◌==◌, ◌&&◌, ◌++◌, Bool, true, false, not, List, [], ◌∷◌}
+use Rattle.std.specs.Prelude.{◌==◌, ◌&&◌, Bool, true, false, not, List, [], ◌∷◌}
 use Rattle.std.specs.List.{list_all}
 use Rattle.std.specs.Str.{bytes_eq}
-use Rattle.whole_files.specs.declared.place.FileId.{FileId}
 use Rattle.whole_files.specs.declared.shared.Identity.{Identity}
 use Rattle.whole_files.specs.declared.shared.Identity.TheVariants.{Existing, New}
 use Rattle.whole_files.specs.declared.shared.Named.{Named}
