@@ -1,10 +1,12 @@
-/* Loaded before the C library: of the calls of the function named by FAILING_CALL (fsync, ftruncate, rename, unlink or
- * lseek) the one whose number is in FAILING_AT, from 1, fails as on a disk that is broken. */
+/* Loaded before the C library: of the calls of the function named by FAILING_CALL (fchmod, fsync, ftruncate, rename, unlink
+ * or lseek) the one whose number is in FAILING_AT, from 1, fails: as on a disk that is broken, or where FAILING_ERROR is set
+ * with the error of this number. */
 #define _GNU_SOURCE
 #include <dlfcn.h>
 #include <errno.h>
 #include <stdlib.h>
 #include <string.h>
+#include <sys/stat.h>
 #include <sys/types.h>
 
 static int fails(const char *name)
@@ -13,8 +15,14 @@ static int fails(const char *name)
     const char *call = getenv("FAILING_CALL"), *at = getenv("FAILING_AT");
     if (!call || !at || strcmp(call, name) || ++made != atol(at))
         return 0;
-    errno = EIO;
+    errno = getenv("FAILING_ERROR") ? atoi(getenv("FAILING_ERROR")) : EIO;
     return 1;
+}
+
+int fchmod(int file, mode_t mode)
+{
+    int (*call)(int, mode_t) = (int (*)(int, mode_t))dlsym(RTLD_NEXT, "fchmod");
+    return fails("fchmod") ? -1 : call(file, mode);
 }
 
 int fsync(int file)

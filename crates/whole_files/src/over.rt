@@ -2,6 +2,7 @@
 
 ghost use Rattle.std.specs.Io.{WritesAtMost};
 
+use crate::part::settle;
 use std::alloc::Global;
 use std::fs::{File, OpenFile};
 use std::io;
@@ -29,7 +30,7 @@ fn fill<F: Write + Seek + OpenFile>(file: &mut F, bytes: &[u8]) -> io::Result<()
     file.seek(SeekFrom::Start(0))?;
     file.write_all(bytes)?;
     file.set_len(bytes.len() as u64)?;
-    file.sync_all()
+    settle(file)
 }
 
 /// All bytes of a file, if it is there.

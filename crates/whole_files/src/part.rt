@@ -59,6 +59,37 @@ fn create<R: Files + AllocGlobal>(
     Err(io::Error::from(ErrorKind::AlreadyExists))
 }
 
+/// Creates a part beside the target, with the permissions of the target if that exists. A part that
+/// can't have them is removed.
+fn begin<R: Files + AllocGlobal>(
+    rt: &R,
+    target: &PathBuf,
+    mode: Option<u32>,
+) -> io::Result<Begun<R::File>> {
+    let begun = create(rt, target, mode.is_some())?;
+    let done = match mode {
+        Some(mode) => begun.file.set_permissions(Permissions::from_mode(mode)),
+        None => Ok(()),
+    };
+    match done {
+        Ok(()) => Ok(begun),
+        Err(error) => {
+            let _ = fs::remove_file(rt, &begun.path);
+            Err(error)
+        }
+    }
+}
+
+/// Waits until a file is on the disk, where the disk can say so.
+pub(crate) fn settle<F: OpenFile>(file: &F) -> io::Result<()> {
+    match file.sync_all() {
+        Err(error)
+            if error.kind() == ErrorKind::InvalidInput || error.kind() == ErrorKind::Unsupported =>
+            { Ok(()) }
+        done => done,
+    }
+}
+
 /// Whether a file with these properties can be replaced by a part with those: it has the same owner
 /// and group, and no other link leads to it.
 fn is_alike(target: &Metadata, part: &Metadata) -> bool {
@@ -66,8 +97,12 @@ fn is_alike(target: &Metadata, part: &Metadata) -> bool {
 }
 
 /// Creates a part beside the target and removes it, and returns what the system says of it.
-fn try_out<R: Files + AllocGlobal>(rt: &R, target: &PathBuf, exists: bool) -> io::Result<Metadata> {
-    let Begun { file, path } = create(rt, target, exists)?;
+fn try_out<R: Files + AllocGlobal>(
+    rt: &R,
+    target: &PathBuf,
+    mode: Option<u32>,
+) -> io::Result<Metadata> {
+    let Begun { file, path } = begin(rt, target, mode)?;
     let metadata = file.metadata();
     fs::remove_file(rt, &path)?;
     metadata
@@ -79,7 +114,7 @@ impl<F: OpenFile + Write + Drop> Part<F> {
         rt: &R,
         target: PathBuf,
     ) -> io::Result<Part<F>> {
-        try_out(rt, &target, false)?;
+        try_out(rt, &target, None)?;
         Ok(Part {
             target,
             mode: None,
@@ -93,10 +128,11 @@ impl<F: OpenFile + Write + Drop> Part<F> {
         target: PathBuf,
         metadata: &Metadata,
     ) -> io::Result<Option<Part<F>>> {
-        match try_out(rt, &target, true) {
+        let mode = Some(metadata.permissions().mode());
+        match try_out(rt, &target, mode) {
             Ok(part) if is_alike(metadata, &part) => Ok(Some(Part {
                 target,
-                mode: Some(metadata.permissions().mode()),
+                mode,
                 begun: None,
             })),
             Err(error) if error.kind() == ErrorKind::OutOfMemory => Err(error),
@@ -104,19 +140,12 @@ impl<F: OpenFile + Write + Drop> Part<F> {
         }
     }
 
-    /// Creates the part, with the permissions of its target, if that wasn't done yet.
+    /// Creates the part, if that wasn't done yet.
     fn begin<R: Files<File = F> + AllocGlobal>(&mut self, rt: &R) -> io::Result<()> {
-        if self.begun.is_some() {
-            return Ok(());
+        if self.begun.is_none() {
+            self.begun = Some(begin(rt, &self.target, self.mode)?);
         }
-        let begun = create(rt, &self.target, self.mode.is_some())?;
-        let done = match self.mode {
-            Some(mode) => begun.file.set_permissions(Permissions::from_mode(mode)),
-            None => Ok(()),
-        };
-        // Kept before the result is looked at: so it is removed where that is an error.
-        self.begun = Some(begun);
-        done
+        Ok(())
     }
 
     /// Writes bytes to the part.
@@ -157,7 +186,7 @@ impl<F: OpenFile + Write + Drop> Part<F> {
     fn sync<R: Files<File = F> + AllocGlobal>(&mut self, rt: &R) -> io::Result<()> {
         self.begin(rt)?;
         match &self.begun {
-            Some(begun) => begun.file.sync_all(),
+            Some(begun) => settle(&begun.file),
             None => Err(io::Error::from(ErrorKind::NotFound)),
         }
     }
