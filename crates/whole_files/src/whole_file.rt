@@ -30,7 +30,7 @@ pub(crate) enum Sink<F> {
 pub struct WholeFile<'a, R: Files> {
     pub(crate) rt: &'a R,
     pub(crate) sink: Sink<R::File>,
-    /// Why the last write failed, if it did.
+    /// Why a write failed, if one did.
     pub fault: Option<ErrorKind>,
 }
 
@@ -108,7 +108,10 @@ impl<R: Files + AllocGlobal> Write for WholeFile<'_, R> {
         match self.write_some(bytes) {
             Ok(count) => Ok(count),
             Err(error) => {
-                self.fault = Some(error.kind());
+                // A write that was interrupted is tried again.
+                if error.kind() != ErrorKind::Interrupted {
+                    self.fault = Some(error.kind());
+                }
                 Err(error)
             }
         }
