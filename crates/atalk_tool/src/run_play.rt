@@ -30,9 +30,13 @@ fn play_reader<'a, R: Files + Print + Eprint + AllocGlobal, S: Read + Drop>(
     rt: &R,
     job: PlayJob<'a>,
     reader: S,
-    mut outputs: Outputs<'_, R>,
+    outputs: Outputs<'_, R>,
     terminals: Terminals,
 ) -> Performed<'a> {
+    let Outputs {
+        mut image,
+        mut capture,
+    } = outputs;
     let mut input = commands::Input::new(reader);
     let listening = Listening::new(rt.alloc(), writer(rt), terminals.errors);
     let mut output = Output::new(rt.alloc(), listening);
@@ -42,7 +46,7 @@ fn play_reader<'a, R: Files + Print + Eprint + AllocGlobal, S: Read + Drop>(
             rt.alloc(),
             &mut input,
             &mut output,
-            &mut outputs.image,
+            &mut image,
             &mut watching,
             job.version,
         ),
@@ -50,14 +54,14 @@ fn play_reader<'a, R: Files + Print + Eprint + AllocGlobal, S: Read + Drop>(
             rt.alloc(),
             &mut input,
             &mut output,
-            &mut outputs.image,
-            &mut outputs.capture,
+            &mut image,
+            &mut capture,
             &mut watching,
             job.version,
         ),
     };
     watching.end();
-    let ended = outputs.end(rt, answer);
+    let ended = Outputs { image, capture }.end(rt, answer);
     let commands::Input { fault, kept, .. } = input;
     Performed {
         outcome: Outcome::Answered(ended.answer),
