@@ -1,5 +1,4 @@
 # `make audit` builds the program and audits an example; `make test` is the gate; `make help` has the rest.
-PREFIX = /usr/local
 
 .PHONY: audit test try check help install dist clean
 
@@ -22,7 +21,7 @@ help:
 	@echo 'make try               the cases and tests without proofs'
 	@echo 'make check CRATE=name  the proofs of one crate'
 	@echo 'make atalk             the proved program, as ./atalk'
-	@echo 'make install           the program and its manual pages, below PREFIX'
+	@echo 'make install           the program, its manual pages and its completions, below PREFIX (/usr/local, if not given)'
 	@echo 'make dist              an archive with the proved program, its pages and licences'
 	@echo 'make clean             what was built goes'
 	@echo 'scripts/affected NAME  what is proved again after an edit of a crate'
@@ -31,15 +30,12 @@ atalk:
 	@scripts/build -q
 
 install: atalk
-	install -d $(DESTDIR)$(PREFIX)/bin $(DESTDIR)$(PREFIX)/share/man/man1 $(DESTDIR)$(PREFIX)/share/man/man5
-	install -m 755 atalk $(DESTDIR)$(PREFIX)/bin/atalk
-	install -m 644 docs/man/atalk.1 $(DESTDIR)$(PREFIX)/share/man/man1/atalk.1
-	install -m 644 docs/man/atalk-image.5 docs/man/atalk-internet.5 docs/man/atalk-script.5 docs/man/atalk-tables.5 \
-		$(DESTDIR)$(PREFIX)/share/man/man5
+	scripts/completions ./atalk completions
+	@$(MAKE) --no-print-directory -f scripts/install.mk install
 
 dist:
 	@scripts/build -q
 	@scripts/dist
 
 clean:
-	rm -rf atalk out crates/*/out nuxorvelt-*.tar.gz
+	rm -rf atalk completions out crates/*/out nuxorvelt-*.tar.gz

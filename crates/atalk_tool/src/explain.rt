@@ -1,64 +1,74 @@
-//! Explains a result to a person at a terminal. All of this runs after the result was printed, and
+//! Explains a result to a person. All of this runs after the result was printed, and
 //! writes only to standard error; if a write fails, nothing more is printed.
 
-ghost use Rattle.std.specs.Prelude.{◌≡◌, None};
+ghost use Rattle.std.specs.Prelude.{◌≡◌, IfErr, None, Some};
 
 use crate::outputs::Missed;
-use at_base::{Error, Part};
+use at_base::Error;
+use audit::Verdict;
 use command_line::{Outcome, Source};
-use file_advice::{explain_entry, explain_tables};
-use image_advice::{explain_flaw, explain_kind, explain_no, explain_no_of_bytes};
+use commands::{Answer, AtFault, Judged, Refused};
+use file_advice::Format;
+use image_advice::{explain_flaw, explain_kind, explain_no, explain_yes};
 use reply_advice::Replies;
+use std::alloc::{AllocError, Global};
 use std::io;
 use std::io::ErrorKind;
-use table_image::Image;
-
-/// A kind of file that people write in TOML.
-#[derive(Clone, Copy)]
-pub enum FileKind {
-    /// An internet file, for a play.
-    Internet,
-    /// A tables file, of which an image is made.
-    Tables,
-}
 
 /// Facts about a run of the program besides its outcome.
 #[derive(Drop)]
 pub struct Evidence<'a> {
     /// The input, or the file for the image, that the outcome is about.
     pub source: Option<Source<'a>>,
-    /// Why a read failed.
-    pub fault: Option<ErrorKind>,
-    /// The bytes of the image of a play or of a tables file, or the text of an invalid file.
-    pub bytes: Option<Vec<u8>>,
-    /// The image that was read.
-    pub image: Option<Image>,
-    /// The byte at the first flaw of an image.
-    pub flawed: Option<u8>,
+    /// The refusal of the command.
+    pub refused: Option<Refused>,
+    /// The image, and the verdict on it.
+    pub judged: Option<Judged>,
     /// The file for the image or the capture, if it couldn't be written.
     pub missed: Option<Missed<'a>>,
-    /// What an invalid file was read as.
-    pub file: FileKind,
-    /// The replies that the printed lines tell of, if they are to be explained.
+    /// What the file was read as that was played or made.
+    pub format: Format,
+    /// What is said of the actions or the steps that were refused.
+    pub undone: Option<Vec<u8>>,
+    /// The replies that were received, if they are to be explained.
     pub replies: Option<Replies>,
+    /// The text of the script, or the part of it that was read.
+    pub script: Option<Vec<u8>>,
 }
 
 impl<'a> Evidence<'a> {
     /// A source, if there is one, and nothing else.
     pub fn of(source: Option<Source<'a>>) -> Evidence<'a>
         ensures source { result.source ≡ source.entry }
-        ensures nothing { (result.fault ≡ None) × (result.bytes ≡ None) × (result.image ≡ None)
-            × (result.flawed ≡ None) × (result.missed ≡ None) × (result.replies ≡ None) }
+        ensures nothing { (result.refused ≡ None) × (result.judged ≡ None) × (result.missed ≡ None)
+            × (result.replies ≡ None) }
     {
         Evidence {
             source,
-            fault: None,
-            bytes: None,
-            image: None,
-            flawed: None,
+            refused: None,
+            judged: None,
             missed: None,
-            file: FileKind::Internet,
+            format: Format::Internet,
+            undone: None,
             replies: None,
+            script: None,
+        }
+    }
+
+    /// What a command worked out, or its refusal, of a source.
+    pub fn of_worked<A: Answer>(source: Source<'a>, worked: Result<A, Refused>) -> Evidence<'a>
+        ensures source { result.source ≡ Some source.entry }
+        ensures refused { IfErr worked (λ r. result.refused ≡ Some r) }
+    {
+        match worked {
+            Ok(it) => Evidence {
+                judged: it.into_judged(),
+                ..Evidence::of(Some(source))
+            },
+            Err(refused) => Evidence {
+                refused: Some(refused),
+                ..Evidence::of(Some(source))
+            },
         }
     }
 }
@@ -81,9 +91,8 @@ fn explain_outcome(
     evidence: &Evidence<'_>,
 ) -> io::Result<()> {
     match outcome {
-        Outcome::Answered(Ok(true)) => explain_replies(rt, evidence),
-        Outcome::Answered(Ok(false)) => {
-            explain_replies(rt, evidence)?;
+        Outcome::Answered(Ok(_)) => {
+            explain_run(rt, evidence)?;
             explain_answer(rt, evidence)
         }
         Outcome::Answered(Err(error)) => explain_error(rt, error, evidence),
@@ -101,32 +110,51 @@ fn explain_outcome(
     }
 }
 
-/// Says in words which replies were received, if the printed lines were listened to.
-fn explain_replies(rt: &(impl Eprint + AllocGlobal), evidence: &Evidence<'_>) -> io::Result<()> {
-    let Some(replies) = &evidence.replies else {
-        return Ok(());
-    };
-    let mut text = Vec::new(rt.alloc());
-    replies.write(&mut text)?;
-    match str::from_utf8(text.as_slice()) {
+/// Prints lines that are text.
+fn print_lines(rt: &impl Eprint, lines: &[u8]) -> io::Result<()> {
+    match str::from_utf8(lines) {
         Ok(text) => eprint!(rt; "{text}"),
         Err(_) => Ok(()),
     }
 }
 
-/// Explains a no, if the image is there.
-fn explain_answer(rt: &(impl Eprint + AllocGlobal), evidence: &Evidence<'_>) -> io::Result<()> {
-    if let Some(image) = &evidence.image {
-        return explain_no(rt, image);
+/// Says in words which actions or steps were refused, and which replies were received.
+fn explain_run(rt: &(impl Eprint + AllocGlobal), evidence: &Evidence<'_>) -> io::Result<()> {
+    if let Some(undone) = &evidence.undone {
+        print_lines(rt, undone.as_slice())?;
     }
-    let Some(bytes) = &evidence.bytes else {
+    let Some(replies) = &evidence.replies else {
         return Ok(());
     };
-    if let FileKind::Tables = evidence.file {
+    let mut text = Vec::new(rt.alloc());
+    replies.write(&mut text)?;
+    print_lines(rt, text.as_slice())
+}
+
+/// Explains a no, or what a yes doesn't cover.
+fn explain_answer(rt: &impl Eprint, evidence: &Evidence<'_>) -> io::Result<()> {
+    let Some(Judged { image, verdict }) = &evidence.judged else {
+        return Ok(());
+    };
+    let fault = match verdict {
+        Verdict::Yes(_) => return explain_yes(rt, image),
+        Verdict::No(fault) => *fault,
+    };
+    if let Format::Tables = evidence.format {
         // What was written down may be wrong where the router is right.
         eprintln!(rt; "Compare the place that is named here with your notes first.")?;
     }
-    explain_no_of_bytes(rt, bytes.as_slice())
+    explain_no(rt, image, fault)
+}
+
+/// The name of a source, as it is told.
+pub fn name_of(alloc: Global, source: Option<Source<'_>>) -> Result<String, AllocError> {
+    let mut name = String::new(alloc);
+    match source {
+        Some(Source::File(path)) => write!(name, "{path:?}")?,
+        _ => name.push_str("standard input")?,
+    }
+    Ok(name)
 }
 
 /// Prints the program's name and that of the input.
@@ -137,23 +165,57 @@ fn explain_source(rt: &impl Eprint, evidence: &Evidence<'_>) -> io::Result<()> {
     }
 }
 
-/// Explains the fault of an internet file or a tables file and its place, if the text of the file
-/// was kept.
+/// Explains the faults of an internet file or a tables file.
 fn explain_file(
     rt: &(impl Eprint + AllocGlobal),
-    part: Part,
-    index: u32,
+    file: &AtFault,
     evidence: &Evidence<'_>,
 ) -> io::Result<()> {
-    match &evidence.bytes {
-        Some(text) => {
+    match evidence.source {
+        Some(Source::File(path)) => eprint!(rt; "atalk: {path:?}: ")?,
+        _ => eprint!(rt; "atalk: standard input: ")?,
+    }
+    file_advice::explain(rt, evidence.format, file.text.as_slice(), &file.refused)
+}
+
+/// Explains the bad line of a script.
+fn explain_script(
+    rt: &(impl Eprint + AllocGlobal),
+    line: u32,
+    evidence: &Evidence<'_>,
+) -> io::Result<()> {
+    let alloc = rt.alloc();
+    let mut words = Vec::new(alloc);
+    let text = match &evidence.script {
+        Some(text) => text.as_slice(),
+        None => &[],
+    };
+    let name = name_of(alloc, evidence.source)?;
+    script_advice::write_bad_line(alloc, &mut words, name.as_str(), text, line)?;
+    print_lines(rt, words.as_slice())
+}
+
+/// Explains an error of the inputs.
+fn explain_refused(
+    rt: &(impl Eprint + AllocGlobal),
+    refused: &Refused,
+    evidence: &Evidence<'_>,
+) -> io::Result<()> {
+    match (refused.error, &refused.file) {
+        (Error::BadImage(place, cause), _) => {
             explain_source(rt, evidence)?;
-            match evidence.file {
-                FileKind::Internet => explain_entry(rt, text.as_slice(), part, index),
-                FileKind::Tables => explain_tables(rt, text.as_slice(), part, index),
+            explain_flaw(rt, place, cause, refused.flawed)
+        }
+        (Error::ReadFault, _) => {
+            explain_source(rt, evidence)?;
+            match refused.reason {
+                Some(kind) => eprintln!(rt; "cannot be read: {}", explain_kind(kind)),
+                None => eprintln!(rt; "did not end after {} reads", refused.reads),
             }
         }
-        None => Ok(()),
+        (Error::BadScript(line), _) => explain_script(rt, line, evidence),
+        (Error::BadFile(_, _), Some(file)) => explain_file(rt, file, evidence),
+        _ => Ok(()),
     }
 }
 
@@ -163,22 +225,6 @@ fn explain_error(
     evidence: &Evidence<'_>,
 ) -> io::Result<()> {
     match error {
-        Error::BadImage(place, cause) => {
-            explain_source(rt, evidence)?;
-            explain_flaw(rt, *place, *cause, evidence.flawed)
-        }
-        Error::ReadFault => {
-            explain_source(rt, evidence)?;
-            match evidence.fault {
-                Some(kind) => eprintln!(rt; "cannot be read: {}", explain_kind(kind)),
-                None => eprintln!(rt; "did not end after 16777216 reads"),
-            }
-        }
-        Error::BadScript(line) => {
-            explain_source(rt, evidence)?;
-            eprintln!(rt; "has no event on line {line}; man atalk-script has their format")
-        }
-        Error::BadFile(part, index) => explain_file(rt, *part, *index, evidence),
         Error::Full => eprintln!(rt;
             "atalk: more than 4000000 things happened in the play; plan fewer ticks or stations"
         ),
@@ -189,6 +235,9 @@ fn explain_error(
             None => eprintln!(rt; "atalk: the answer cannot be written to standard output"),
         },
         Error::Memory => eprintln!(rt; "atalk: out of memory"),
-        _ => Ok(()),
+        _ => match &evidence.refused {
+            Some(refused) => explain_refused(rt, refused, evidence),
+            None => Ok(()),
+        },
     }
 }

@@ -5,26 +5,24 @@
 
 mod explain;
 mod files;
-mod listening;
+mod keeping;
 mod outputs;
 mod performed;
 mod run;
 mod run_play;
 mod run_tables;
+mod run_trace;
 mod streams;
+mod telling;
 mod watching;
 
-use run::{Terminals, run};
-use std::io::IsTerminal;
+use run::run;
 use std::process::ExitCode;
 use streams::take_places;
+use telling::Terminals;
 
 // No `Result` here: an `Err` of `main` would end with status 1, which means that the audit failed.
 fn main(rt: HostRuntime) -> ExitCode {
     let _places = take_places(&rt);
-    let terminals = Terminals {
-        input: rt.stdin().is_terminal(),
-        errors: rt.stderr().is_terminal(),
-    };
-    ExitCode::from(run(&rt, terminals))
+    ExitCode::from(run(&rt, Terminals::of(&rt)))
 }

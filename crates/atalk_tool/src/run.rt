@@ -1,44 +1,25 @@
 //! A run of the program.
 
-ghost use Rattle.std.specs.Prelude.{◌≡◌, Bool, Err, Ok, Some, false, if◌then◌else◌, is_some};
-ghost use Rattle.std.specs.Prelude.{ℕ};
+ghost use Rattle.std.specs.Prelude.{◌≡◌, Bool};
 ghost use Rattle.clap.specs.Words.{kind_of};
-ghost use Rattle.at_base.specs.declared.error.Cause.{Cause};
 ghost use Rattle.command_line.specs.Exits.{exit_at};
 
 use crate::explain::{Evidence, explain, prompt};
 use crate::files::check_files;
-use crate::listening::Listening;
 use crate::outputs::{Outputs, Wanted};
 use crate::performed::Performed;
 use crate::run_play::{PlayJob, play_source};
 use crate::run_tables::{MakeJob, Printed, draw_source, make_source, print_source};
-use at_base::Error;
+use crate::run_trace::{Sources, trace_sources};
+use crate::telling::{Printing, Telling, Terminals};
 use clap::error::ErrorKind as ParseError;
 use command_line::{Job, Outcome, Source, exit_of, read_arguments};
-use commands::{audit_file, capture_run, run_frozen};
+use commands::{answer_of, audit_file};
 use std::fs::File;
 use std::io;
-use std::io::{Read, writer};
+use std::io::Read;
 use std::rt::{Env, Files};
 use text::Output;
-
-/// Which of the streams are terminals.
-#[derive(Clone, Copy)]
-pub struct Terminals {
-    /// Standard input.
-    pub input: bool,
-    /// Standard error.
-    pub errors: bool,
-}
-
-/// The sources of the image and the script of a trace, and the files that it is to write.
-#[derive(Clone, Copy)]
-struct Sources<'a> {
-    image: Source<'a>,
-    script: Source<'a>,
-    wanted: Wanted<'a>,
-}
 
 /// The arguments, the program's own name first.
 fn given_arguments<R: Env + AllocGlobal>(rt: &R) -> io::Result<Vec<String>> {
@@ -49,25 +30,14 @@ fn given_arguments<R: Env + AllocGlobal>(rt: &R) -> io::Result<Vec<String>> {
 fn audit_reader<'a, R: Print + AllocGlobal, S: Read + Drop>(
     rt: &R,
     source: Source<'a>,
-    reader: S,
+    mut reader: S,
+    telling: Telling,
 ) -> Performed<'a> {
-    let mut input = commands::Input::new(reader);
-    let mut output = Output::new(rt.alloc(), writer(rt));
-    let answer = audit_file(rt.alloc(), &mut input, &mut output);
-    let commands::Input {
-        fault,
-        image,
-        flawed,
-        ..
-    } = input;
+    let mut output = Output::new(rt.alloc(), Printing::new(rt, telling));
+    let audited = audit_file(rt.alloc(), &mut reader, &mut output);
     Performed {
-        outcome: Outcome::Answered(answer),
-        evidence: Evidence {
-            fault,
-            image,
-            flawed,
-            ..Evidence::of(Some(source))
-        },
+        outcome: Outcome::Answered(answer_of(&audited)),
+        evidence: Evidence::of_worked(source, audited),
     }
 }
 
@@ -75,141 +45,18 @@ fn audit_reader<'a, R: Print + AllocGlobal, S: Read + Drop>(
 fn audit_source<'a, R: Files + Input + Print + Eprint + AllocGlobal>(
     rt: &R,
     source: Source<'a>,
-    terminals: Terminals,
+    telling: Telling,
 ) -> Performed<'a> {
     match source {
         Source::StandardInput => {
-            if terminals.input && terminals.errors {
+            if telling.prompts {
                 prompt(rt, "an image");
             }
-            audit_reader(rt, source, rt.reader())
+            audit_reader(rt, source, rt.reader(), telling)
         }
         Source::File(path) => match File::open(rt, path) {
-            Ok(file) => audit_reader(rt, source, file),
+            Ok(file) => audit_reader(rt, source, file, telling),
             Err(error) => Performed::not_opened(source, error.kind()),
-        },
-    }
-}
-
-/// What explains a trace: its script, if that has a bad line or wasn't read to its end, and
-/// otherwise its image.
-fn evidence_of<'a, I: Drop, S: Drop>(
-    sources: Sources<'a>,
-    answer: &Result<bool, Error>,
-    image: commands::Input<I>,
-    script: commands::Input<S>,
-) -> Evidence<'a>
-    ensures bad_line { (n : ℕ) → answer.now ≡ Err (Error.BadScript n)
-        → result.source ≡ Some sources.entry.script }
-    // An image that was read is kept, so the read that failed is that of the script.
-    ensures read_fault { answer.now ≡ Err Error.ReadFault → result.source
-        ≡ Some (if is_some image.image then sources.entry.script else sources.entry.image) }
-    ensures reason { answer.now ≡ Err Error.ReadFault → result.fault
-        ≡ (if is_some image.image then script.fault else image.fault) }
-    // A no, and a flaw, are explained by the image.
-    ensures no { answer.now ≡ Ok false → (result.source ≡ Some sources.entry.image)
-        × (result.image ≡ image.image) }
-    ensures flaw { (place : ℕ) (cause : Cause) → answer.now ≡ Err (Error.BadImage place cause)
-        → (result.source ≡ Some sources.entry.image) × (result.flawed ≡ image.flawed) }
-{
-    let by_script = match answer {
-        Err(Error::BadScript(_)) => true,
-        Err(Error::ReadFault) => image.image.is_some(),
-        _ => false,
-    };
-    if by_script {
-        Evidence {
-            fault: script.fault,
-            ..Evidence::of(Some(sources.script))
-        }
-    } else {
-        Evidence {
-            fault: image.fault,
-            image: image.image,
-            flawed: image.flawed,
-            ..Evidence::of(Some(sources.image))
-        }
-    }
-}
-
-/// Runs the script that one reader has over the image that the other has, and prints the trace on
-/// standard output; the capture goes to an output.
-fn trace_readers<'a, R: Files + Print + AllocGlobal, I: Read + Drop, S: Read + Drop>(
-    rt: &R,
-    sources: Sources<'a>,
-    image: I,
-    script: S,
-    mut outputs: Outputs<'_, R>,
-    terminals: Terminals,
-) -> Performed<'a> {
-    let mut image = commands::Input::new(image);
-    let mut script = commands::Input::new(script);
-    let listening = Listening::new(rt.alloc(), writer(rt), terminals.errors);
-    let mut output = Output::new(rt.alloc(), listening);
-    let answer = match sources.wanted.capture {
-        None => run_frozen(rt.alloc(), &mut image, &mut script, &mut output),
-        Some(_) => capture_run(
-            rt.alloc(),
-            &mut image,
-            &mut script,
-            &mut output,
-            &mut outputs.capture,
-        ),
-    };
-    let ended = outputs.end(rt, answer);
-    let evidence = evidence_of(sources, &ended.answer, image, script);
-    Performed {
-        outcome: Outcome::Answered(ended.answer),
-        evidence: Evidence {
-            missed: sources.wanted.missed(ended.unwritten),
-            replies: output.writer.replies,
-            ..evidence
-        },
-    }
-}
-
-/// Runs a script over an image, both of which are open. The file for the capture is looked at before
-/// either is read.
-fn trace_opened<'a, R: Files + Print + AllocGlobal, I: Read + Drop, S: Read + Drop>(
-    rt: &R,
-    sources: Sources<'a>,
-    image: I,
-    script: S,
-    terminals: Terminals,
-) -> Performed<'a> {
-    match Outputs::open(rt, sources.wanted) {
-        Ok(outputs) => trace_readers(rt, sources, image, script, outputs, terminals),
-        Err(performed) => performed,
-    }
-}
-
-/// Runs the script of the source over the image that the reader has.
-fn trace_image<'a, R: Files + Input + Print + AllocGlobal, I: Read + Drop>(
-    rt: &R,
-    sources: Sources<'a>,
-    image: I,
-    terminals: Terminals,
-) -> Performed<'a> {
-    match sources.script {
-        Source::StandardInput => trace_opened(rt, sources, image, rt.reader(), terminals),
-        Source::File(path) => match File::open(rt, path) {
-            Ok(file) => trace_opened(rt, sources, image, file, terminals),
-            Err(error) => Performed::not_opened(sources.script, error.kind()),
-        },
-    }
-}
-
-/// Runs a script over an image. Both files are opened before either is read.
-fn trace_sources<'a, R: Files + Input + Print + AllocGlobal>(
-    rt: &R,
-    sources: Sources<'a>,
-    terminals: Terminals,
-) -> Performed<'a> {
-    match sources.image {
-        Source::StandardInput => trace_image(rt, sources, rt.reader(), terminals),
-        Source::File(path) => match File::open(rt, path) {
-            Ok(file) => trace_image(rt, sources, file, terminals),
-            Err(error) => Performed::not_opened(sources.image, error.kind()),
         },
     }
 }
@@ -238,11 +85,11 @@ fn finish(rt: &impl Eprint, outcome: &Outcome) -> u8
 }
 
 /// Prints the number of an error and its explanation for a person, and returns the exit status.
-fn answer(rt: &(impl Eprint + AllocGlobal), performed: &Performed<'_>, terminals: Terminals) -> u8
+fn answer(rt: &(impl Eprint + AllocGlobal), performed: &Performed<'_>, telling: Telling) -> u8
     ensures { result ≡ (exit_at performed.now.outcome).status }
 {
     let status = finish(rt, &performed.outcome);
-    if terminals.errors {
+    if telling.explains {
         explain(rt, &performed.outcome, &performed.evidence);
     }
     status
@@ -262,10 +109,10 @@ fn refuse_arguments<'a>(rt: &impl Eprint, kind: io::ErrorKind) -> Performed<'a>
 fn perform<'a, R: Files + Input + Print + Eprint + AllocGlobal>(
     rt: &R,
     job: Job<'a>,
-    terminals: Terminals,
+    telling: Telling,
 ) -> Performed<'a> {
     match job {
-        Job::Audit(source) => audit_source(rt, source, terminals),
+        Job::Audit(source) => audit_source(rt, source, telling),
         Job::Trace(image, script, capture) => {
             let wanted = Wanted {
                 image: None,
@@ -276,7 +123,7 @@ fn perform<'a, R: Files + Input + Print + Eprint + AllocGlobal>(
                 script,
                 wanted,
             };
-            trace_sources(rt, sources, terminals)
+            trace_sources(rt, sources, telling)
         }
         Job::Play(source, image, version, capture) => {
             let wanted = Wanted { image, capture };
@@ -285,33 +132,37 @@ fn perform<'a, R: Files + Input + Print + Eprint + AllocGlobal>(
                 wanted,
                 version,
             };
-            play_source(rt, job, terminals)
+            play_source(rt, job, telling)
         }
         Job::Make(source, image) => {
             let wanted = Wanted {
                 image,
                 capture: None,
             };
-            make_source(rt, MakeJob { source, wanted }, terminals)
+            make_source(rt, MakeJob { source, wanted }, telling)
         }
-        Job::Show(source) => print_source(rt, source, Printed::Tables, terminals),
-        Job::Draw(source, to) => draw_source(rt, source, to, terminals),
+        Job::Show(source) => print_source(rt, source, Printed::Tables, telling),
+        Job::Draw(source, to) => draw_source(rt, source, to, telling),
     }
 }
 
 /// Performs the job that the arguments ask for, and returns the exit status.
-fn run_arguments<R: Files + Input + Print + Eprint + AllocGlobal>(
+fn run_arguments<R: Env + Files + Input + Print + Eprint + AllocGlobal>(
     rt: &R,
     arguments: &[String],
     terminals: Terminals,
 ) -> u8 {
-    let job = match read_arguments(rt.alloc(), arguments) {
-        Ok(job) => job,
-        Err(error) => return answer(rt, &print_answer(rt, &error), terminals),
+    let request = match read_arguments(rt.alloc(), arguments) {
+        Ok(request) => request,
+        Err(error) => return answer(rt, &print_answer(rt, &error), terminals.telling()),
     };
-    match check_files(rt, &job) {
-        Ok(()) => answer(rt, &perform(rt, job, terminals), terminals),
-        Err(refused) => answer(rt, &refused, terminals),
+    let telling = match Telling::of(rt, &request, terminals) {
+        Ok(telling) => telling,
+        Err(refused) => return answer(rt, &refused, terminals.telling()),
+    };
+    match check_files(rt, &request.job) {
+        Ok(()) => answer(rt, &perform(rt, request.job, telling), telling),
+        Err(refused) => answer(rt, &refused, telling),
     }
 }
 
@@ -322,6 +173,6 @@ pub fn run<R: Env + Files + Input + Print + Eprint + AllocGlobal>(
 ) -> u8 {
     match given_arguments(rt) {
         Ok(arguments) => run_arguments(rt, arguments.as_slice(), terminals),
-        Err(error) => answer(rt, &refuse_arguments(rt, error.kind()), terminals),
+        Err(error) => answer(rt, &refuse_arguments(rt, error.kind()), terminals.telling()),
     }
 }

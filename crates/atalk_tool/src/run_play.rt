@@ -1,15 +1,21 @@
 //! Plays internet files, from their sources to the outputs for their lines and images.
 
-use crate::explain::{Evidence, prompt};
-use crate::listening::Listening;
+use crate::explain::{Evidence, name_of, prompt};
+use crate::keeping::{Keeping, bytes_of};
 use crate::outputs::{Outputs, Wanted};
 use crate::performed::Performed;
-use crate::run::Terminals;
+use crate::telling::{Printing, Telling};
 use crate::watching::Watching;
+use at_base::Fault;
+use audit::Verdict;
 use command_line::{Outcome, Source};
-use commands::{capture_play, play_bytes};
+use commands::{Refused, answer_of, capture_play, play_bytes};
+use file_advice::{write_other_zones, write_shared_tries, write_undone};
+use playing::Played;
+use reply_advice::Replies;
 use std::fs::File;
-use std::io::{Read, writer};
+use std::io;
+use std::io::{Read, Write};
 use std::rt::Files;
 use table_image::Version;
 use text::Output;
@@ -23,6 +29,82 @@ pub struct PlayJob<'a> {
     pub version: Option<Version>,
 }
 
+/// The replies that the nodes received, if they are to be explained.
+fn replies_of(
+    rt: &impl AllocGlobal,
+    played: &Result<Played, Refused>,
+    telling: Telling,
+) -> Option<Replies> {
+    match played {
+        Ok(it) if telling.explains => Some(Replies::of_world(rt.alloc(), &it.world)),
+        _ => None,
+    }
+}
+
+/// Writes what became of the file's actions and stations.
+fn write_told<W: Write>(
+    rt: &impl AllocGlobal,
+    writer: &mut W,
+    job: PlayJob<'_>,
+    it: &Played,
+    text: Option<&[u8]>,
+) -> io::Result<()> {
+    let name = name_of(rt.alloc(), Some(job.source))?;
+    let (name, plan) = (name.as_str(), it.world.plan());
+    write_undone(writer, name, text, plan, it.world.refused())?;
+    write_other_zones(writer, name, plan, &it.image)?;
+    match it.verdict {
+        Verdict::No(Fault { rule: 2, .. }) => write_shared_tries(rt.alloc(), writer, name, plan),
+        _ => Ok(()),
+    }
+}
+
+/// What is said of the file's actions and stations, if that is to be explained: nothing where memory
+/// runs out.
+fn told_of(
+    rt: &impl AllocGlobal,
+    job: PlayJob<'_>,
+    played: &Result<Played, Refused>,
+    text: Option<&[u8]>,
+    telling: Telling,
+) -> Option<Vec<u8>> {
+    match played {
+        Ok(it) if telling.explains => {
+            let mut words = Vec::new(rt.alloc());
+            write_told(rt, &mut words, job, it, text).ok()?;
+            Some(words)
+        }
+        _ => None,
+    }
+}
+
+/// Plays the internet file that the reader has, prints its lines on standard output, and writes its
+/// image and its capture to the outputs.
+fn play_outputs<R: Files + Print + Eprint + AllocGlobal, S: Read>(
+    rt: &R,
+    job: PlayJob<'_>,
+    reader: &mut S,
+    outputs: &mut Outputs<'_, R>,
+    watching: &mut Watching<'_, R>,
+    telling: Telling,
+) -> Result<Played, Refused> {
+    let alloc = rt.alloc();
+    let mut output = Output::new(alloc, Printing::new(rt, telling));
+    let Outputs { image, capture } = outputs;
+    match job.wanted.capture {
+        None => play_bytes(alloc, reader, &mut output, image, watching, job.version),
+        Some(_) => capture_play(
+            alloc,
+            reader,
+            &mut output,
+            image,
+            capture,
+            watching,
+            job.version,
+        ),
+    }
+}
+
 /// Plays the internet file that the reader has, and prints its lines on standard output; the image
 /// and the capture go to the outputs. If standard error is a terminal, the progress of a long play is
 /// printed there.
@@ -30,47 +112,22 @@ fn play_reader<'a, R: Files + Print + Eprint + AllocGlobal, S: Read + Drop>(
     rt: &R,
     job: PlayJob<'a>,
     reader: S,
-    outputs: Outputs<'_, R>,
-    terminals: Terminals,
+    mut outputs: Outputs<'_, R>,
+    telling: Telling,
 ) -> Performed<'a> {
-    let Outputs {
-        mut image,
-        mut capture,
-    } = outputs;
-    let mut input = commands::Input::new(reader);
-    let listening = Listening::new(rt.alloc(), writer(rt), terminals.errors);
-    let mut output = Output::new(rt.alloc(), listening);
-    let mut watching = Watching::new(rt, terminals.errors);
-    let answer = match job.wanted.capture {
-        None => play_bytes(
-            rt.alloc(),
-            &mut input,
-            &mut output,
-            &mut image,
-            &mut watching,
-            job.version,
-        ),
-        Some(_) => capture_play(
-            rt.alloc(),
-            &mut input,
-            &mut output,
-            &mut image,
-            &mut capture,
-            &mut watching,
-            job.version,
-        ),
-    };
+    let mut reader = Keeping::new(rt.alloc(), reader, telling.explains);
+    let mut watching = Watching::new(rt, telling.watched);
+    let played = play_outputs(rt, job, &mut reader, &mut outputs, &mut watching, telling);
     watching.end();
-    let ended = Outputs { image, capture }.end(rt, answer);
-    let commands::Input { fault, kept, .. } = input;
+    let text = reader.into_text();
+    let ended = outputs.end(rt, answer_of(&played));
     Performed {
         outcome: Outcome::Answered(ended.answer),
         evidence: Evidence {
-            fault,
-            bytes: kept,
             missed: job.wanted.missed(ended.unwritten),
-            replies: output.writer.replies,
-            ..Evidence::of(Some(job.source))
+            undone: told_of(rt, job, &played, bytes_of(&text), telling),
+            replies: replies_of(rt, &played, telling),
+            ..Evidence::of_worked(job.source, played)
         },
     }
 }
@@ -81,10 +138,10 @@ fn play_into<'a, R: Files + Print + Eprint + AllocGlobal, S: Read + Drop>(
     rt: &R,
     job: PlayJob<'a>,
     reader: S,
-    terminals: Terminals,
+    telling: Telling,
 ) -> Performed<'a> {
     match Outputs::open(rt, job.wanted) {
-        Ok(outputs) => play_reader(rt, job, reader, outputs, terminals),
+        Ok(outputs) => play_reader(rt, job, reader, outputs, telling),
         Err(performed) => performed,
     }
 }
@@ -93,17 +150,17 @@ fn play_into<'a, R: Files + Print + Eprint + AllocGlobal, S: Read + Drop>(
 pub fn play_source<'a, R: Files + Input + Print + Eprint + AllocGlobal>(
     rt: &R,
     job: PlayJob<'a>,
-    terminals: Terminals,
+    telling: Telling,
 ) -> Performed<'a> {
     match job.source {
         Source::StandardInput => {
-            if terminals.input && terminals.errors {
+            if telling.prompts {
                 prompt(rt, "an internet file");
             }
-            play_into(rt, job, rt.reader(), terminals)
+            play_into(rt, job, rt.reader(), telling)
         }
         Source::File(path) => match File::open(rt, path) {
-            Ok(file) => play_into(rt, job, file, terminals),
+            Ok(file) => play_into(rt, job, file, telling),
             Err(error) => Performed::not_opened(job.source, error.kind()),
         },
     }

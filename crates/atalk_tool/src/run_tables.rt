@@ -2,14 +2,15 @@
 
 ghost use Rattle.std.specs.Prelude.{◌≡◌, Err, IfErr, Ok, OnOk, true};
 
-use crate::explain::{Evidence, FileKind, prompt};
+use crate::explain::{Evidence, prompt};
 use crate::outputs::{Outputs, Wanted};
 use crate::performed::Performed;
-use crate::run::Terminals;
+use crate::telling::{Printing, Telling};
 use at_base::Error;
 use clap::error::ErrorKind as ParseError;
 use command_line::{Outcome, Source};
-use commands::{draw_image, make_bytes, show_image};
+use commands::{Refused, answer_of, draw_image, make_bytes, show_image};
+use file_advice::Format;
 use std::fs::File;
 use std::io::{Read, writer};
 use std::rt::Files;
@@ -37,22 +38,19 @@ pub enum Printed {
 fn make_reader<'a, R: Files + Print + AllocGlobal, S: Read + Drop>(
     rt: &R,
     job: MakeJob<'a>,
-    reader: S,
+    mut reader: S,
     mut outputs: Outputs<'_, R>,
+    telling: Telling,
 ) -> Performed<'a> {
-    let mut input = commands::Input::new(reader);
-    let mut output = Output::new(rt.alloc(), writer(rt));
-    let answer = make_bytes(rt.alloc(), &mut input, &mut output, &mut outputs.image);
-    let ended = outputs.end(rt, answer);
-    let commands::Input { fault, kept, .. } = input;
+    let mut output = Output::new(rt.alloc(), Printing::new(rt, telling));
+    let made = make_bytes(rt.alloc(), &mut reader, &mut output, &mut outputs.image);
+    let ended = outputs.end(rt, answer_of(&made));
     Performed {
         outcome: Outcome::Answered(ended.answer),
         evidence: Evidence {
-            fault,
-            bytes: kept,
             missed: job.wanted.missed(ended.unwritten),
-            file: FileKind::Tables,
-            ..Evidence::of(Some(job.source))
+            format: Format::Tables,
+            ..Evidence::of_worked(job.source, made)
         },
     }
 }
@@ -63,9 +61,10 @@ fn make_into<'a, R: Files + Print + AllocGlobal, S: Read + Drop>(
     rt: &R,
     job: MakeJob<'a>,
     reader: S,
+    telling: Telling,
 ) -> Performed<'a> {
     match Outputs::open(rt, job.wanted) {
-        Ok(outputs) => make_reader(rt, job, reader, outputs),
+        Ok(outputs) => make_reader(rt, job, reader, outputs, telling),
         Err(performed) => performed,
     }
 }
@@ -74,30 +73,30 @@ fn make_into<'a, R: Files + Print + AllocGlobal, S: Read + Drop>(
 pub fn make_source<'a, R: Files + Input + Print + Eprint + AllocGlobal>(
     rt: &R,
     job: MakeJob<'a>,
-    terminals: Terminals,
+    telling: Telling,
 ) -> Performed<'a> {
     match job.source {
         Source::StandardInput => {
-            if terminals.input && terminals.errors {
+            if telling.prompts {
                 prompt(rt, "a tables file");
             }
-            make_into(rt, job, rt.reader())
+            make_into(rt, job, rt.reader(), telling)
         }
         Source::File(path) => match File::open(rt, path) {
-            Ok(file) => make_into(rt, job, file),
+            Ok(file) => make_into(rt, job, file, telling),
             Err(error) => Performed::not_opened(job.source, error.kind()),
         },
     }
 }
 
 /// What came of printing: the program's answer is a yes wherever it was printed.
-fn answered(printed: Result<(), Error>) -> Result<bool, Error>
-    ensures yes { OnOk printed (result ≡ Ok true) }
-    ensures error { IfErr printed (λ e. result ≡ Err e) }
+fn printed_answer(printed: &Result<(), Refused>) -> Result<bool, Error>
+    ensures yes { OnOk printed.now (result ≡ Ok true) }
+    ensures error { IfErr printed.now (λ r. result ≡ Err r.error) }
 {
     match printed {
         Ok(()) => Ok(true),
-        Err(error) => Err(error),
+        Err(refused) => Err(refused.error),
     }
 }
 
@@ -106,20 +105,17 @@ fn print_reader<'a, R: Print + AllocGlobal, S: Read + Drop>(
     rt: &R,
     source: Source<'a>,
     printed: Printed,
-    reader: S,
+    mut reader: S,
 ) -> Performed<'a> {
-    let mut input = commands::Input::new(reader);
     let mut output = Output::new(rt.alloc(), writer(rt));
-    let answer = match printed {
-        Printed::Tables => show_image(rt.alloc(), &mut input, &mut output),
-        Printed::Drawing(to) => draw_image(rt.alloc(), &mut input, &mut output, to),
+    let printed = match printed {
+        Printed::Tables => show_image(rt.alloc(), &mut reader, &mut output),
+        Printed::Drawing(to) => draw_image(rt.alloc(), &mut reader, &mut output, to),
     };
-    let commands::Input { fault, flawed, .. } = input;
     Performed {
-        outcome: Outcome::Answered(answered(answer)),
+        outcome: Outcome::Answered(printed_answer(&printed)),
         evidence: Evidence {
-            fault,
-            flawed,
+            refused: printed.err(),
             ..Evidence::of(Some(source))
         },
     }
@@ -131,11 +127,11 @@ pub fn print_source<'a, R: Files + Input + Print + Eprint + AllocGlobal>(
     rt: &R,
     source: Source<'a>,
     printed: Printed,
-    terminals: Terminals,
+    telling: Telling,
 ) -> Performed<'a> {
     match source {
         Source::StandardInput => {
-            if terminals.input && terminals.errors {
+            if telling.prompts {
                 prompt(rt, "an image");
             }
             print_reader(rt, source, printed, rt.reader())
@@ -160,13 +156,13 @@ pub fn draw_source<'a, R: Files + Input + Print + Eprint + AllocGlobal>(
     rt: &R,
     source: Source<'a>,
     to: Option<&'a str>,
-    terminals: Terminals,
+    telling: Telling,
 ) -> Performed<'a> {
     let Some(word) = to else {
-        return print_source(rt, source, Printed::Drawing(None), terminals);
+        return print_source(rt, source, Printed::Drawing(None), telling);
     };
     match number(65_535, word.as_bytes()) {
-        Some(net) => print_source(rt, source, Printed::Drawing(Some(net as u16)), terminals),
+        Some(net) => print_source(rt, source, Printed::Drawing(Some(net as u16)), telling),
         None => refuse_network(rt, word),
     }
 }

@@ -12,8 +12,8 @@ ghost use Rattle.audit.specs.Walks.{WalksHome};
 use crate::judge::audit;
 use crate::verdict::Verdict;
 use at_base::Error;
+use image_feed::read;
 use std::alloc::Global;
-use table_image::read;
 
 /// Audits the internet whose image the bytes spell (docs/FORMATS.md). Errors: `BadImage`, with the
 /// 0-based offset and the cause of the first flaw, where the bytes spell no image; `Memory`, only

@@ -1,5 +1,5 @@
 -- The command line, as a parse sees it.
-use Rattle.std.specs.Prelude.{◌≡◌, ◌≢◌, ◌⊎◌, ◌==◌, Bool, true, not, List, [], ◌∷◌, Option, Some, None, codes, option_map}
+use Rattle.std.specs.Prelude.{◌≡◌, ◌≢◌, ◌⊎◌, ◌==◌, Bool, true, false, not, List, [], ◌∷◌, Option, Some, None, codes, option_map}
 use Rattle.std.specs.Prelude.{cond, if◌then◌else◌}
 use Rattle.std.specs.Str.{bytes_eq}
 use Rattle.clap.specs.Walk.{Rule}
@@ -7,6 +7,7 @@ use Rattle.clap.specs.Words.{App, Row, Text, first_of, new_app, new_rule, with_r
 use Rattle.clap.specs.declared.builder.ArgAction.TheVariants.{Set, SetTrue}
 use Rattle.command_line.specs.declared.arguments.Job.{Job}
 use Rattle.command_line.specs.declared.arguments.Job.TheVariants.{Audit, Draw, Make, Play, Show, Trace}
+use Rattle.command_line.specs.declared.arguments.Request.{Request}
 use Rattle.command_line.specs.declared.arguments.Source.{Source}
 use Rattle.command_line.specs.declared.arguments.Source.TheVariants.{StandardInput, File}
 use Rattle.clap.specs.declared.error.ErrorKind.{ErrorKind}
@@ -18,13 +19,29 @@ use Rattle.table_image.specs.declared.version.Version.TheVariants.{V2}
 abbrev pub operand : Text → Rule
 operand name = record (new_rule name) { required = true; action = Some Set }
 
+-- The option `--explain WHEN`.
+abbrev pub explain_option : Rule
+explain_option = record (new_rule (codes "WHEN")) { long = Some (codes "explain"); action = Some Set }
+
+-- The flag `--quiet`, or `-q`.
+abbrev pub quiet_flag : Rule
+quiet_flag = record (new_rule (codes "QUIET")) { long = Some (codes "quiet"); short = Some 113; action = Some SetTrue }
+
+-- The command, with `--explain WHEN`.
+abbrev pub with_explain : App → App
+with_explain app = with_rule app explain_option
+
+-- The command, with `--explain WHEN` and `--quiet`.
+abbrev pub with_telling : App → App
+with_telling app = with_rule (with_explain app) quiet_flag
+
 -- The command `audit FILE`.
 abbrev pub audit_app : App
-audit_app = with_rule (new_app (codes "audit")) (operand (codes "FILE"))
+audit_app = with_telling (with_rule (new_app (codes "audit")) (operand (codes "FILE")))
 
 -- The program `atalk`, without its commands.
 abbrev pub bare_app : App
-bare_app = let app = new_app (codes "atalk") in record app { top = record app.top { has_version = true; disable_help_subcommand = true } }
+bare_app = let app = new_app (codes "atalk") in record app { top = record app.top { has_version = true } }
 
 -- The option `--capture OUT`.
 abbrev pub capture_option : Rule
@@ -32,8 +49,8 @@ capture_option = record (new_rule (codes "CAPTURE")) { long = Some (codes "captu
 
 -- The command `trace IMAGE SCRIPT`, with `--capture OUT`.
 abbrev pub trace_app : App
-trace_app =
-    with_rule (with_rule (with_rule (new_app (codes "trace")) (operand (codes "IMAGE"))) (operand (codes "SCRIPT"))) capture_option
+trace_app = with_telling (with_rule
+    (with_rule (with_rule (new_app (codes "trace")) (operand (codes "IMAGE"))) (operand (codes "SCRIPT"))) capture_option)
 
 -- The option `--image OUT`.
 abbrev pub out_option : Rule
@@ -49,15 +66,15 @@ tables_play_app = with_rule (with_rule (with_rule (new_app (codes "play")) (oper
 
 -- The same with `--capture OUT`.
 abbrev pub play_app : App
-play_app = with_rule tables_play_app capture_option
+play_app = with_telling (with_rule tables_play_app capture_option)
 
 -- The command `make FILE`, with `--image OUT`.
 abbrev pub make_app : App
-make_app = with_rule (with_rule (new_app (codes "make")) (operand (codes "FILE"))) out_option
+make_app = with_telling (with_rule (with_rule (new_app (codes "make")) (operand (codes "FILE"))) out_option)
 
 -- The command `show IMAGE`.
 abbrev pub show_app : App
-show_app = with_rule (new_app (codes "show")) (operand (codes "IMAGE"))
+show_app = with_explain (with_rule (new_app (codes "show")) (operand (codes "IMAGE")))
 
 -- The option `--to NET`.
 abbrev pub to_option : Rule
@@ -65,7 +82,7 @@ to_option = record (new_rule (codes "NET")) { long = Some (codes "to"); action =
 
 -- The command `draw IMAGE`, with `--to NET`.
 abbrev pub draw_app : App
-draw_app = with_rule (with_rule (new_app (codes "draw")) (operand (codes "IMAGE"))) to_option
+draw_app = with_explain (with_rule (with_rule (new_app (codes "draw")) (operand (codes "IMAGE"))) to_option)
 
 -- The program `atalk`, with its commands for images.
 abbrev pub images_app : App
@@ -96,10 +113,14 @@ Traces image script capture (Trace i s c) =
     Names image i × Names script s × (option_map (λ path. path.now) c ≡ capture)
 Traces image script capture _ = ⊥
 
+-- Whether a flag with this value is given.
+abbrev pub is_set : Option Text → Bool
+is_set None = false
+is_set (Some text) = bytes_eq text (codes "true")
+
 -- The version that is asked for by this value of `--v2`: version 2 if it is given.
 abbrev pub version_by : Option Text → Option ImageVersion
-version_by None = None
-version_by (Some text) = if bytes_eq text (codes "true") then Some V2 else None
+version_by value = if is_set value then Some V2 else None
 
 -- The job is a play of the source in the first text, whose image is written to the file in the second text, if there is
 -- one, and has this version, if one is asked for; its capture is written to the file in the third text, if there is one.
@@ -157,6 +178,16 @@ IsMeantBy ToDraw rows job = Draws (first_of (codes "IMAGE") rows) (first_of (cod
 abbrev pub IsMeant : Option (Text × List Row) → Job → Type 0
 IsMeant None job = Audits None job
 IsMeant (Some met) job = IsMeantBy (asked met.0) met.1 job
+
+-- What is told, by the options of the command: the word of `--explain`, and whether `--quiet` is given.
+abbrev pub IsTold : Option (Text × List Row) → Request → Type 0
+IsTold None r = (r.explain ≡ None) × (r.quiet ≡ false)
+IsTold (Some met) r = (option_map (λ word. word.now) r.explain ≡ first_of (codes "WHEN") met.1)
+    × (r.quiet ≡ is_set (first_of (codes "QUIET") met.1))
+
+-- The request for the job of the command that was matched, with what is told.
+abbrev pub IsRequest : Option (Text × List Row) → Request → Type 0
+IsRequest met r = IsMeant met r.job × IsTold met r
 
 -- The argument is no flag: it has at most one byte, or doesn't begin with a dash.
 abbrev pub is_operand : Text → Bool

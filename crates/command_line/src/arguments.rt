@@ -6,9 +6,9 @@ ghost use Rattle.std.specs.Prelude.{IfOk, IfErr, IsErrAnd, Some, option_map};
 ghost use Rattle.clap.specs.Words.{FailsBy, fault_of, first_of, found_of, kind_of, rows_of};
 ghost use Rattle.clap.specs.Words.{subcommand_of, subcommand_rows_of, takes};
 ghost use Rattle.clap.specs.declared.error.ErrorKind.TheVariants.{OutOfMemory};
-ghost use Rattle.command_line.specs.Arguments.{About, AreOperands, Asks, Form, IsMeant, IsMeantBy};
-ghost use Rattle.command_line.specs.Arguments.{Names, about_kind, about_word, asked, atalk_app};
-ghost use Rattle.command_line.specs.Arguments.{operands_of, version_by, words_of};
+ghost use Rattle.command_line.specs.Arguments.{About, AreOperands, Asks, Form, IsMeantBy};
+ghost use Rattle.command_line.specs.Arguments.{IsRequest, Names, about_kind, about_word, asked};
+ghost use Rattle.command_line.specs.Arguments.{atalk_app, is_set, operands_of, version_by, words_of};
 
 use crate::syntax::atalk_command;
 use clap::{ArgMatches, Error};
@@ -43,16 +43,28 @@ pub enum Job<'a> {
     Draw(Source<'a>, Option<&'a str>),
 }
 
+/// What the command line asks for.
+#[derive(Clone, Copy, Debug, PartialEq, Eq)]
+pub struct Request<'a> {
+    /// The job.
+    pub job: Job<'a>,
+    /// The word of `--explain`, if it is given.
+    pub explain: Option<&'a str>,
+    /// Whether `--quiet` is given.
+    pub quiet: bool,
+}
+
 /// Reads the arguments. The first one is the program's own name.
-pub fn read_arguments<'a, S: AsStr>(alloc: Global, arguments: &'a [S]) -> Result<Job<'a>, Error>
+pub fn read_arguments<'a, S: AsStr>(alloc: Global, arguments: &'a [S]) -> Result<Request<'a>, Error>
     // Without arguments the job is an audit of standard input; the only error is out of memory.
     ensures alone { length arguments.entry.now ≤ 1
-        → IfOk result (λ job. job ≡ Job.Audit Source.StandardInput) }
+        → IfOk result (λ r. r.job ≡ Job.Audit Source.StandardInput) }
     ensures alone_err { length arguments.entry.now ≤ 1
         → IfErr result (λ e. kind_of e ≡ OutOfMemory) }
-    // The job is that of the command and its operands, in the parse that clap's contracts define.
+    // The job is that of the command and its operands, in the parse that clap's contracts define, and
+    // so is what is told.
     ensures meant { IfOk result
-        (IsMeant (subcommand_of atalk_app (map S.text arguments.entry.now))) }
+        (IsRequest (subcommand_of atalk_app (map S.text arguments.entry.now))) }
     // Arguments that are refused have the kind of their fault in that parse, and others none; the
     // only other error is out of memory.
     ensures kinds { FailsBy (fault_of atalk_app (map S.text arguments.entry.now)) result }
@@ -62,7 +74,7 @@ pub fn read_arguments<'a, S: AsStr>(alloc: Global, arguments: &'a [S]) -> Result
     // Arguments of one of the forms ask for its job; the only error is out of memory.
     ensures written { (name : List ℕ) (form : Form)
         → map S.text arguments.entry.now ≡ name ∷ words_of form
-        → AreOperands (operands_of form) → IfOk result (Asks form) }
+        → AreOperands (operands_of form) → IfOk result (λ r. Asks form r.job) }
     ensures written_err { (name : List ℕ) (form : Form)
         → map S.text arguments.entry.now ≡ name ∷ words_of form
         → AreOperands (operands_of form) → IfErr result (λ e. kind_of e ≡ OutOfMemory) }
@@ -72,17 +84,26 @@ pub fn read_arguments<'a, S: AsStr>(alloc: Global, arguments: &'a [S]) -> Result
         → IsErrAnd result (λ e. (kind_of e ≡ about_kind about) ⊎ (kind_of e ≡ OutOfMemory)) }
 {
     let matches = atalk_command(alloc)?.try_get_matches_from(arguments)?;
-    Ok(job_of(&matches))
+    Ok(request_of(&matches))
 }
 
-/// The job that was matched. Without a command it is an audit of standard input.
-fn job_of<'a>(matches: &ArgMatches<'a>) -> Job<'a>
-    ensures none { subcommand_rows_of matches.now ≡ None → result ≡ Job.Audit Source.StandardInput }
-    ensures meant { IsMeant (subcommand_rows_of matches.now) result }
+/// What was matched. Without a command it is an audit of standard input.
+fn request_of<'a>(matches: &ArgMatches<'a>) -> Request<'a>
+    ensures none { subcommand_rows_of matches.now ≡ None
+        → result.job ≡ Job.Audit Source.StandardInput }
+    ensures meant { IsRequest (subcommand_rows_of matches.now) result }
 {
     match matches.subcommand() {
-        Some((name, operands)) => job_named(name, operands),
-        None => Job::Audit(Source::StandardInput),
+        Some((name, operands)) => Request {
+            job: job_named(name, operands),
+            explain: word_in(operands, "WHEN"),
+            quiet: flag_in(operands, "QUIET"),
+        },
+        None => Request {
+            job: Job::Audit(Source::StandardInput),
+            explain: None,
+            quiet: false,
+        },
     }
 }
 
@@ -129,21 +150,28 @@ fn word_in<'a>(operands: &ArgMatches<'a>, name: &str) -> Option<&'a str>
     operands.get_str(name)
 }
 
+/// Whether the flag with this name is given.
+fn flag_in(operands: &ArgMatches<'_>, name: &str) -> bool
+    ensures { result ≡ is_set (first_of name.now (rows_of (found_of operands.now))) }
+{
+    match operands.get_str(name) {
+        Some(given) => is_true(given),
+        None => false,
+    }
+}
+
+/// Whether a flag with this value is given.
+fn is_true(given: &str) -> bool
+    ensures { result ≡ is_set (Some given.now) }
+{
+    given == "true"
+}
+
 /// The version that the flag with this name asks for, if it is given.
 fn version_in(operands: &ArgMatches<'_>, name: &str) -> Option<Version>
     ensures { result ≡ version_by (first_of name.now (rows_of (found_of operands.now))) }
 {
-    match operands.get_str(name) {
-        Some(given) => version_of(given),
-        None => None,
-    }
-}
-
-/// The version that is asked for by this value of `--v2`: version 2 if it is given.
-fn version_of(given: &str) -> Option<Version>
-    ensures { result ≡ version_by (Some given.now) }
-{
-    if given == "true" {
+    if flag_in(operands, name) {
         Some(Version::V2)
     } else {
         None

@@ -7,6 +7,6 @@ mod exit;
 mod exit_status;
 mod syntax;
 
-pub use arguments::{Job, Source, read_arguments};
+pub use arguments::{Job, Request, Source, read_arguments};
 pub use exit::{Exit, Outcome, exit_of};
 pub use exit_status::status;

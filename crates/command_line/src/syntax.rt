@@ -32,7 +32,8 @@ A refusal prints `refused: N` on standard error:
   15  the input can't be opened or read
   16  the answer can't be written
   17  the script has a bad line
-Where standard error is a terminal, a no and a refusal are explained there.
+Where standard error is a terminal, a no and a refusal are explained there; --explain=always or the
+variable ATALK_EXPLAIN says it everywhere.
 
 Examples:
   atalk audit three-cables.image
@@ -43,6 +44,14 @@ Examples:
   atalk draw museum.image | dot -Tsvg > museum.svg
 
 More: man atalk, man atalk-image, man atalk-script, man atalk-internet, man atalk-tables";
+
+const AFTER_COMMAND: &str = "Exit status:
+  0  yes: the tables keep every rule; or what was asked for was done
+  1  no: the line printed names the first rule that is broken, and where
+  2  refused: the input, by `refused: N` on standard error, or the arguments
+  3  out of memory, or reading or writing failed
+
+More: atalk --help has the numbers of refusals, and man atalk the rest";
 
 const AUDIT: &str =
     "Judges an image and prints one line: yes with a summary, or no with the first fault";
@@ -79,6 +88,12 @@ const VERSION_2: &str =
     "Writes the image in version 2, with each station's mappings; without it the image is of \
     version 1 where that can hold the tables, else of version 2";
 
+const EXPLAIN: &str =
+    "When a person is told more on standard error: always, never, or auto, which is where that is a \
+    terminal";
+
+const QUIET: &str = "Prints nothing on standard output: the exit status tells the verdict";
+
 /// A required operand.
 fn operand<'a>(alloc: Global, name: &'a str, help: &'a str) -> Arg<'a>
     ensures rule { rule_of result ≡ spec.operand name.entry.now }
@@ -90,15 +105,45 @@ fn operand<'a>(alloc: Global, name: &'a str, help: &'a str) -> Arg<'a>
         .action(ArgAction::Set)
 }
 
+/// A command with `--explain WHEN`.
+fn with_explain<'a>(alloc: Global, command: Command<'a>) -> Result<Command<'a>, AllocError>
+    requires local { (fields_of command).has_globals ≡ false }
+    ensures app { IfOk result (λ it. app_of it ≡ spec.with_explain (app_of command.entry)) }
+    ensures local { IfOk result (λ it. (fields_of it).has_globals ≡ false) }
+{
+    command.arg(
+        Arg::new(alloc, "WHEN")
+            .long("explain")
+            .help(EXPLAIN)
+            .action(ArgAction::Set),
+    )
+}
+
+/// A command with `--explain WHEN` and `--quiet`.
+fn with_telling<'a>(alloc: Global, command: Command<'a>) -> Result<Command<'a>, AllocError>
+    requires local { (fields_of command).has_globals ≡ false }
+    ensures app { IfOk result (λ it. app_of it ≡ spec.with_telling (app_of command.entry)) }
+    ensures local { IfOk result (λ it. (fields_of it).has_globals ≡ false) }
+{
+    with_explain(alloc, command)?.arg(
+        Arg::new(alloc, "QUIET")
+            .long("quiet")
+            .short('q')
+            .help(QUIET)
+            .action(ArgAction::SetTrue),
+    )
+}
+
 /// `atalk audit FILE`.
 fn audit_command<'a>(alloc: Global) -> Result<Command<'a>, AllocError>
     ensures app { IfOk result (λ command. app_of command ≡ audit_app) }
     ensures local { IfOk result (λ command. (fields_of command).has_globals ≡ false) }
 {
-    Command::new(alloc, "audit")
+    let command = Command::new(alloc, "audit")
         .about(AUDIT)
-        .after_help(AFTER_HELP)
-        .arg(operand(alloc, "FILE", IMAGE))
+        .after_help(AFTER_COMMAND)
+        .arg(operand(alloc, "FILE", IMAGE))?;
+    with_telling(alloc, command)
 }
 
 /// `--capture OUT`.
@@ -117,12 +162,13 @@ fn trace_command<'a>(alloc: Global) -> Result<Command<'a>, AllocError>
     ensures app { IfOk result (λ command. app_of command ≡ trace_app) }
     ensures local { IfOk result (λ command. (fields_of command).has_globals ≡ false) }
 {
-    Command::new(alloc, "trace")
+    let command = Command::new(alloc, "trace")
         .about(TRACE)
-        .after_help(AFTER_HELP)
+        .after_help(AFTER_COMMAND)
         .arg(operand(alloc, "IMAGE", IMAGE))?
         .arg(operand(alloc, "SCRIPT", SCRIPT))?
-        .arg(capture_option(alloc))
+        .arg(capture_option(alloc))?;
+    with_telling(alloc, command)
 }
 
 /// `--image OUT`.
@@ -154,7 +200,7 @@ fn tables_play_command<'a>(alloc: Global) -> Result<Command<'a>, AllocError>
 {
     Command::new(alloc, "play")
         .about(PLAY)
-        .after_help(AFTER_HELP)
+        .after_help(AFTER_COMMAND)
         .arg(operand(alloc, "FILE", INTERNET))?
         .arg(image_option(alloc))?
         .arg(version_option(alloc))
@@ -165,7 +211,8 @@ fn play_command<'a>(alloc: Global) -> Result<Command<'a>, AllocError>
     ensures app { IfOk result (λ command. app_of command ≡ play_app) }
     ensures local { IfOk result (λ command. (fields_of command).has_globals ≡ false) }
 {
-    tables_play_command(alloc)?.arg(capture_option(alloc))
+    let command = tables_play_command(alloc)?.arg(capture_option(alloc))?;
+    with_telling(alloc, command)
 }
 
 /// `atalk make FILE`, with `--image OUT`.
@@ -173,11 +220,12 @@ fn make_command<'a>(alloc: Global) -> Result<Command<'a>, AllocError>
     ensures app { IfOk result (λ command. app_of command ≡ make_app) }
     ensures local { IfOk result (λ command. (fields_of command).has_globals ≡ false) }
 {
-    Command::new(alloc, "make")
+    let command = Command::new(alloc, "make")
         .about(MAKE)
-        .after_help(AFTER_HELP)
+        .after_help(AFTER_COMMAND)
         .arg(operand(alloc, "FILE", TABLES))?
-        .arg(image_option(alloc))
+        .arg(image_option(alloc))?;
+    with_telling(alloc, command)
 }
 
 /// `atalk show IMAGE`.
@@ -185,10 +233,11 @@ fn show_command<'a>(alloc: Global) -> Result<Command<'a>, AllocError>
     ensures app { IfOk result (λ command. app_of command ≡ show_app) }
     ensures local { IfOk result (λ command. (fields_of command).has_globals ≡ false) }
 {
-    Command::new(alloc, "show")
+    let command = Command::new(alloc, "show")
         .about(SHOW)
-        .after_help(AFTER_HELP)
-        .arg(operand(alloc, "IMAGE", IMAGE))
+        .after_help(AFTER_COMMAND)
+        .arg(operand(alloc, "IMAGE", IMAGE))?;
+    with_explain(alloc, command)
 }
 
 /// `--to NET`.
@@ -207,11 +256,12 @@ fn draw_command<'a>(alloc: Global) -> Result<Command<'a>, AllocError>
     ensures app { IfOk result (λ command. app_of command ≡ draw_app) }
     ensures local { IfOk result (λ command. (fields_of command).has_globals ≡ false) }
 {
-    Command::new(alloc, "draw")
+    let command = Command::new(alloc, "draw")
         .about(DRAW)
-        .after_help(AFTER_HELP)
+        .after_help(AFTER_COMMAND)
         .arg(operand(alloc, "IMAGE", IMAGE))?
-        .arg(network_option(alloc))
+        .arg(network_option(alloc))?;
+    with_explain(alloc, command)
 }
 
 /// `atalk`, with its commands for images.
@@ -222,7 +272,6 @@ fn image_commands<'a>(alloc: Global) -> Result<Command<'a>, AllocError>
         .version("1.0")
         .about(ABOUT)
         .after_help(AFTER_HELP)
-        .disable_help_subcommand(true)
         .subcommand(audit_command(alloc)?)?
         .subcommand(trace_command(alloc)?)
 }

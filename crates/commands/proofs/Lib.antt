@@ -1,3 +1,6 @@
 pub mod Known
-pub mod Pieces
+pub mod Images
+pub mod Returned
+pub mod Scripts
+pub mod Unplayed
 mod TablesFaults

@@ -1,138 +1,119 @@
--- What a call used of its inputs, and wrote to its outputs.
-use Rattle.std.specs.Prelude.{◌≡◌, ◌≢◌, ◌⊎◌, ◌+◌, ◌%◌, ◌^◌, ◌≤◌, ℕ, List, Option, None, Result, Err, IfErr, IfSome, IsErrAnd, IsOkUnless, IsSome, OnErr, OnOk}
-use Rattle.std.specs.Io.KnownBytes.{IsAtEnd}
+-- What a call read of its inputs, and why it has no answer. Of an input `before` and `after` are the bytes that are left of
+-- it, where they are known, before and after the call.
+use Rattle.std.specs.Prelude.{◌≡◌, ◌≢◌, ◌⊎◌, ◌++◌, ◌≤◌, false, ℕ, List, Option, Result, IfErr, IfSome, IsErrAnd, IsSome, IsSomeAnd, OnOk, length}
+use Rattle.std.specs.Io.KnownBytes.{Consumes, IsAtEnd}
 use Rattle.at_base.specs.Spelling.{Spells}
 use Rattle.at_base.specs.declared.error.Error.{Error}
-use Rattle.at_base.specs.declared.error.Error.TheVariants.{BadScript, Full, Memory, ReadFault, WriteFault}
-use Rattle.internet_file.specs.Files.{IsFileRefused}
+use Rattle.at_base.specs.declared.error.Error.TheVariants.{BadFile, BadScript, Full, Memory, ReadFault, WriteFault}
+use Rattle.at_base.specs.declared.error.Part.TheVariants.{Text}
+use Rattle.at_base.specs.declared.error.Part.{Part}
+use Rattle.commands.specs.declared.refused.Origin.TheVariants as origin
+use Rattle.commands.specs.declared.refused.Refused.{Refused}
+use Rattle.file_entries.specs.Texts.{may_begin}
+use Rattle.image_feed.specs.Feeds.{cut_at}
+use Rattle.image_feed.specs.declared.feed.TheConstants.{MAX_PIECE}
+use Rattle.internet_file.specs.Files.{IsFile, IsFileRefused, Planned}
+use Rattle.playing.specs.Lives.{Fills, Outgrows}
 use Rattle.script.specs.Scripts.{IsBadAt, IsScript}
 use Rattle.script.specs.declared.step.Step.{Step}
 use Rattle.table_image.specs.Internet.{Internet}
 use Rattle.table_image.specs.Reading.{IsFirstFlaw, RefusesFirst, refusal}
 use Rattle.table_image.specs.Spelling.{image_spelling}
 use Rattle.table_image.specs.declared.flaw.Flaw.{Flaw}
-use Rattle.tables_file.specs.Files.{AreRefused}
-
--- ---- Inputs: what is left of one, its failed reads before and after the call, the reason of the last, the number of its
--- reads, and which of them was the first that gave nothing, before and after the call
+use Rattle.table_image.specs.declared.version.Version.{Version}
+use Rattle.tables_file.specs.Files.{AreRefused, AreTables}
 
 -- the greatest number of reads of one input
 abbrev pub most_reads : ℕ
 most_reads = 16777216
 
--- If no read had given nothing before, and one did in the call, it was the last read.
-abbrev pub EndsReading : Option ℕ → Option ℕ → ℕ → Type 0
-EndsReading end_before end_after reads = end_before ≡ None → IfSome end_after (λ n. n ≡ reads)
+-- What a refusal tells of the reads of an input: ReadFault has the reason of a read that failed, or the input didn't end in so
+-- many reads; and no other error has a reason.
+pub record IsTold (most : ℕ) (r : Refused) : Type 0 where
+  pub why : r.error ≡ ReadFault → IsSome r.reason ⊎ (r.reads ≡ most)
+  pub only : IsSome r.reason → r.error ≡ ReadFault
 
--- After Ok the input was read to its end, and no read failed. The reason of a failed read is kept, and it is reported. No
--- read follows the one that found the end.
-pub record Reads {A X : Type 0} (left : Option (List ℕ)) (before after : ℕ) (why : Option X) (reads : ℕ) (end_before end_after : Option ℕ)
-    (result : Result A Error) : Type 0 where
-  pub end : OnOk result (IsAtEnd left)
-  pub stays : OnOk result (after ≡ before)
-  pub reason : after ≢ before → IsSome why
-  pub reported : after ≢ before → result ≡ Err ReadFault
-  pub found : OnOk result (IsSome end_after)
-  pub last : EndsReading end_before end_after reads
+-- The text is what was left of the input, where that is known.
+abbrev pub IsTextOf : Option (List ℕ) → List ℕ → Type 0
+IsTextOf before text = IfSome before (λ bytes. bytes ≡ text)
 
--- So it is, and the call reads nothing else: ReadFault comes of a failed read, or after the greatest number of reads.
-pub record Uses {A X : Type 0} (left : Option (List ℕ)) (before after : ℕ) (why : Option X) (reads : ℕ) (end_before end_after : Option ℕ)
-    (result : Result A Error) : Type 0 where
-  pub end : OnOk result (IsAtEnd left)
-  pub stays : OnOk result (after ≡ before)
-  pub reason : after ≢ before → IsSome why
-  pub reported : after ≢ before → result ≡ Err ReadFault
-  pub found : OnOk result (IsSome end_after)
-  pub last : EndsReading end_before end_after reads
-  pub read_fault : result ≡ Err ReadFault → (after ≢ before) ⊎ (reads ≡ most_reads)
-  pub limit : result ≡ Err ReadFault → after ≡ before → reads ≡ most_reads
+-- A text that is refused as a file is this one.
+abbrev pub Has : List ℕ → Refused → Type 0
+Has text r = (part : Part) (n : ℕ) → r.error ≡ BadFile part n → IsSomeAnd r.file (λ f. f.text.items ≡ text)
 
--- What an input notes of its reads: of the failed ones how many, and the reason of the last; all of them; and the first
--- that gave nothing. A failed read is counted once, and without one the reason stays. The number of reads only grows. The
--- end that was found first stays, and none is noted but where the input is at its end.
-pub record Notes {X : Type 0} (left : Option (List ℕ)) (before after : ℕ) (why_before why_after : Option X) (reads_before reads_after : ℕ)
-    (end_before end_after : Option ℕ) : Type 0 where
-  pub counts : (after ≡ before) ⊎ (after ≡ (before + 1) % 2 ^ 32)
-  pub no_reason : after ≡ before → why_after ≡ why_before
-  pub counted : reads_before ≤ reads_after
-  pub first : IsSome end_before → end_after ≡ end_before
-  pub ended : (end_after ≡ end_before) ⊎ IsAtEnd left
+-- A text that is refused as a file comes back, as far as it was read.
+abbrev pub IsBack : Option (List ℕ) → Option (List ℕ) → Refused → Type 0
+IsBack before after r = (part : Part) (n : ℕ) → r.error ≡ BadFile part n → IsSomeAnd r.file (λ f. Consumes before after f.text.items)
 
--- ---- Outputs: their failed writes before and after the call
+-- A text can't be read to its end: a read failed, memory ran out, or no text in TOML begins as it does.
+abbrev pub IsUnread : ℕ → Option (List ℕ) → Option (List ℕ) → Refused → Type 0
+IsUnread most before after r =
+    IsTold most r × IsBack before after r × ((r.error ≡ ReadFault) ⊎ (r.error ≡ Memory) ⊎ ((text : List ℕ) × IsTextOf before text
+    × ((r.error ≡ BadFile Text 0) × (may_begin text ≡ false))))
 
--- WriteFault comes of a failed write, and after Ok none failed. A failed write is reported.
-pub record Wrote {A : Type 0} (before after : ℕ) (result : Result A Error) : Type 0 where
-  pub write_fault : result ≡ Err WriteFault → after ≢ before
-  pub stays : OnOk result (after ≡ before)
-  pub reported : after ≢ before → result ≡ Err WriteFault
+-- ---- Images
 
--- The same of lines and of an image that is written after them: if that can't be written, the lines were. A failed write of
--- either is reported.
-pub record WroteImage {A : Type 0} (SameLines SameImage : Type 0) (before after image_before image_after : ℕ) (result : Result A Error)
-    : Type 0 where
-  pub write_fault : result ≡ Err WriteFault → (after ≢ before) ⊎ (image_after ≢ image_before)
-  pub blamed : OnErr result (SameImage ⊎ (after ≡ before))
-  pub nothing_written : IfErr result (λ e. e ≢ WriteFault → SameLines × SameImage)
-  pub stays : OnOk result (after ≡ before)
-  pub image_stays : OnOk result (image_after ≡ image_before)
-  pub reported : after ≢ before → result ≡ Err WriteFault
-  pub image_reported : image_after ≢ image_before → result ≡ Err WriteFault
-
--- The lines, and then the image, were to be written, and nothing else can fail.
-pub record Hands {A : Type 0} (SameImage Lines : Type 0) (before after image_before image_after : ℕ) (result : Result A Error)
-    : Type 0 where
-  pub fault : OnErr result ((after ≢ before) ⊎ (image_after ≢ image_before))
-  pub blamed : OnErr result (SameImage ⊎ (after ≡ before))
-  pub refused : IsOkUnless result WriteFault
-  pub stays : OnOk result (after ≡ before)
-  pub image_stays : OnOk result (image_after ≡ image_before)
-  pub reported : after ≢ before → result ≡ Err WriteFault
-  pub image_reported : image_after ≢ image_before → result ≡ Err WriteFault
-  pub order : SameImage ⊎ Lines
-
--- ---- Errors, whether or not the bytes of the inputs are known
+-- The bytes have no flaw, except that they may end too early.
+abbrev pub IsUnflawed : List ℕ → Type 0
+IsUnflawed bytes = (f : Flaw) → IsFirstFlaw bytes f → f ≡ cut_at (length bytes)
 
 -- What reading an image may be refused for: a failed read, no memory, or the first flaw of some bytes.
 abbrev pub IsImageRefused : Error → Type 0
 IsImageRefused e = (e ≡ ReadFault) ⊎ (e ≡ Memory) ⊎ ((bytes : List ℕ) × RefusesFirst bytes e)
 
+-- Bytes that spell no image have the error of their first flaw, and bytes that spell one have none of its kind. After Ok the
+-- image was read to its end. A failed read is told, and is the error only where what was read before has no flaw; no more is
+-- read than the piece that has the first flaw.
+pub record ReadsImage {A : Type 0} (before after : Option (List ℕ)) (result : Result A Refused) : Type 0 where
+  pub end : OnOk result (IsAtEnd after)
+  pub flaw : IfSome before (λ bytes. (f : Flaw) → IsFirstFlaw bytes f → IsErrAnd result (λ r.
+      (r.error ≡ refusal f) ⊎ (r.error ≡ ReadFault) ⊎ (r.error ≡ Memory)))
+  pub spelled : IfSome before (λ bytes. (i : Internet) → Spells image_spelling bytes i → IfErr result (λ r.
+      (f : Flaw) → r.error ≢ refusal f))
+  pub told : IfErr result (IsTold most_reads)
+  pub unflawed : IfErr result (λ r. r.error ≡ ReadFault → r.origin ≡ origin.Input
+      → (got : List ℕ) × IsUnflawed got × Consumes before after got)
+  pub no_more : (got piece : List ℕ) × IsUnflawed got × (length piece ≤ MAX_PIECE) × Consumes before after (got ++ piece)
+
+-- ---- Scripts
+
 -- What reading a script may be refused for: a failed read, no memory, or the first bad line of some text.
 abbrev pub IsScriptRefused : Error → Type 0
 IsScriptRefused e = (e ≡ ReadFault) ⊎ (e ≡ Memory) ⊎ ((text : List ℕ) × (n : ℕ) × (e ≡ BadScript n) × IsBadAt text n)
 
--- What playing an internet file may be refused for: a failed read, no room, no memory, or the first fault of some text.
-abbrev pub IsPlayRefused : Error → Type 0
-IsPlayRefused e = (e ≡ ReadFault) ⊎ (e ≡ Full) ⊎ (e ≡ Memory) ⊎ ((text : List ℕ) × IsFileRefused text e)
-
--- What reading a tables file may be refused for: a failed read, no memory, or the first fault of some text.
-abbrev pub AreTablesRefused : Error → Type 0
-AreTablesRefused e = (e ≡ ReadFault) ⊎ (e ≡ Memory) ⊎ ((text : List ℕ) × AreRefused text e)
-
--- ---- Errors, by the bytes of the inputs where they are known
-
--- Bytes that spell no image have the error of their first flaw, and bytes that spell one have none of its kind.
-pub record Judged {A : Type 0} (image : Option (List ℕ)) (result : Result A Error) : Type 0 where
-  pub flaw : IfSome image (λ bytes. (f : Flaw) → IsFirstFlaw bytes f → IsErrAnd result (λ e.
-      (e ≡ refusal f) ⊎ (e ≡ ReadFault) ⊎ (e ≡ Memory)))
-  pub spelled : IfSome image (λ bytes. (i : Internet) → Spells image_spelling bytes i → IfErr result (λ e.
-      (e ≡ Memory) ⊎ (e ≡ ReadFault) ⊎ (e ≡ WriteFault)))
-
--- Bytes that spell no image have the error of their first flaw, whatever the script is; if they spell one, a script with a
--- bad line has the error of its first bad line, and a script without has none of its kind.
-pub record Run {A : Type 0} (image script : Option (List ℕ)) (result : Result A Error) : Type 0 where
-  pub flaw : IfSome image (λ bytes. (f : Flaw) → IsFirstFlaw bytes f → IsErrAnd result (λ e.
-      (e ≡ refusal f) ⊎ (e ≡ ReadFault) ⊎ (e ≡ Memory)))
+-- If the image's bytes spell one, a script with a bad line has the error of its first bad line, and a script without has
+-- none of its kind. After Ok it was read to its end. It isn't touched before the image was read to its end, nor unless its
+-- bytes spell one, so that the first flaw of an image comes first.
+pub record ReadsScript {A : Type 0} (image image_after script script_after : Option (List ℕ)) (Untouched : Type 0)
+    (result : Result A Refused) : Type 0 where
+  pub end : OnOk result (IsAtEnd script_after)
   pub bad_line : IfSome image (λ bytes. IfSome script (λ text. (i : Internet) (n : ℕ) → Spells image_spelling bytes i
-      → IsBadAt text n → IsErrAnd result (λ e. (e ≡ BadScript n) ⊎ (e ≡ ReadFault) ⊎ (e ≡ Memory))))
+      → IsBadAt text n → IsErrAnd result (λ r. (r.error ≡ BadScript n) ⊎ (r.error ≡ ReadFault) ⊎ (r.error ≡ Memory))))
   pub good : IfSome image (λ bytes. IfSome script (λ text. (i : Internet) (steps : List Step) → Spells image_spelling bytes i
-      → IsScript text steps → IfErr result (λ e. (e ≡ Memory) ⊎ (e ≡ ReadFault) ⊎ (e ≡ WriteFault))))
-
--- ---- The order of two inputs
-
--- The image is kept where a trace was written, and where the script has a bad line. The script is untouched unless the
--- image is kept, and where it has a flaw.
-pub record First {A : Type 0} (image : Option (List ℕ)) (Untouched Kept : Type 0) (result : Result A Error) : Type 0 where
-  pub kept : OnOk result Kept
-  pub kept_for : (n : ℕ) → result ≡ Err (BadScript n) → Kept
-  pub touched : Untouched ⊎ Kept
+      → IsScript text steps → IfErr result (λ r. (r.error ≡ Memory) ⊎ (r.error ≡ ReadFault) ⊎ (r.error ≡ WriteFault))))
+  pub in_order : Untouched ⊎ (IsAtEnd image_after × IfSome image (λ bytes. (i : Internet) × Spells image_spelling bytes i))
   pub image_first : IfSome image (λ bytes. (f : Flaw) → IsFirstFlaw bytes f → Untouched)
+  pub of_script : IfErr result (λ r. r.origin ≡ origin.Script
+      → IsAtEnd image_after × IfSome image (λ bytes. (i : Internet) × Spells image_spelling bytes i))
+
+-- ---- Files
+
+-- Why an internet file isn't played: it can't be read; its text is no file, with its first fault; or the play of its plan
+-- has no room or no memory, or can't be written.
+abbrev pub IsUnplayed : Option (List ℕ) → Option (List ℕ) → Refused → Type 0
+IsUnplayed before after r =
+    IsTold most_reads r × IsBack before after r × ((r.error ≡ ReadFault) ⊎ (r.error ≡ Memory) ⊎ ((text : List ℕ) × IsTextOf before text
+    × (IsFileRefused text r.error
+    ⊎ (((plan : Planned) × IsFile text plan) × ((r.error ≡ Full) ⊎ (r.error ≡ Memory) ⊎ (r.error ≡ WriteFault))))))
+
+-- A play is full: one of the plan's ticks has no room, or version 1 is asked for and the tables need version 2.
+abbrev pub IsFull : Option Version → Option (List ℕ) → Type 0
+IsFull version before =
+    (text : List ℕ) × IsTextOf before text × ((plan : Planned) × IsFile text plan × (Fills plan ⊎ Outgrows version plan))
+
+-- Why no image is made of a tables file: it can't be read, its text is none, with its first fault, or the image of its
+-- tables can't be written.
+abbrev pub IsUnmade : Option (List ℕ) → Option (List ℕ) → Refused → Type 0
+IsUnmade before after r =
+    IsTold most_reads r × IsBack before after r × ((r.error ≡ ReadFault) ⊎ (r.error ≡ Memory) ⊎ ((text : List ℕ) × IsTextOf before text
+    × (AreRefused text r.error ⊎ (((i : Internet) × AreTables text i) × (r.error ≡ WriteFault)))))

@@ -1,25 +1,29 @@
 //! The commands of `atalk`, from readers to writers: an audit, a trace, a play, and what is made of
 //! a tables file, shown of an image or drawn. Each reads its input to the end, or an image up to its
-//! first fault.
+//! first fault, does its work, and then writes; what it worked out is returned.
 #![tactic(auto)]
 
+mod answers;
 mod auditing;
-mod capturing;
 mod handing;
 mod image_input;
-mod input;
-mod make_file;
-mod play_file;
+mod making;
+mod plays;
+mod reading;
+mod refused;
+mod script_input;
 mod showing;
-mod sources;
+mod text_input;
 mod tracing;
 
-pub use auditing::audit_file;
-pub use capturing::{capture_play, capture_run};
-pub use image_input::{read_from, read_image};
-pub use input::{Input, READS, append};
-pub use make_file::make_bytes;
-pub use play_file::play_bytes;
+pub use answers::{Answer, answer_of};
+pub use auditing::{Judged, audit_file};
+pub use image_input::read_image;
+pub use making::make_bytes;
+pub use plays::{capture_play, play_bytes};
+pub use reading::READS;
+pub use refused::{AtFault, Origin, Refused};
+pub use script_input::read_steps;
 pub use showing::{draw_image, show_image};
-pub use sources::read_steps;
-pub use tracing::run_frozen;
+pub use text_input::{append, read_text};
+pub use tracing::{capture_run, run_frozen};

@@ -12,10 +12,10 @@ mod reading;
 mod tables;
 mod tracing;
 
-use at_base::{Cause, Error};
-use commands::{Input, READS, append, audit_file, read_from};
+use at_base::{Cause, Error, Part};
+use commands::{READS, answer_of, append, audit_file, read_image};
 use fakes::{Endless, Frail, Holding, Pieces, Places, Restless};
-use reading::{nearly_given_up, read_all};
+use reading::read_all;
 use std::alloc::Global;
 use std::io::{ErrorKind, Read};
 use std::test::Fail;
@@ -23,18 +23,18 @@ use text::Output;
 
 #[test]
 fn a_read_that_fails_is_a_read_fault(rt: HostRuntime) -> Result<(), Fail> {
-    let bytes = [7u8; 276];
+    let bytes = [b'7'; 276];
     for fails_at in 1..5 {
         let mut pieces = Pieces::new(bytes.as_slice(), 100);
         pieces.fails_at = Some(fails_at);
-        let reading = read_all(rt.alloc(), pieces);
+        let reading = read_all(rt.alloc(), pieces, READS);
         assert_eq!(rt; reading.answer.err(), Some(Error::ReadFault));
-        assert_eq!(rt; reading.reads, fails_at);
-        assert!(rt; reading.failed);
+        assert_eq!(rt; reading.reader.reads, fails_at);
+        assert_eq!(rt; reading.reason, Some(ErrorKind::Other));
     }
-    let reading = read_all(rt.alloc(), Pieces::new(bytes.as_slice(), 100));
+    let reading = read_all(rt.alloc(), Pieces::new(bytes.as_slice(), 100), READS);
+    assert_eq!(rt; reading.reader.reads, 4);
     assert_eq!(rt; reading.answer?.as_slice(), bytes.as_slice());
-    assert_eq!(rt; reading.reads, 4);
     Ok(())
 }
 
@@ -47,30 +47,28 @@ fn a_read_that_fails_in_another_way_is_not_tried_again(rt: HostRuntime) {
         ErrorKind::TimedOut,
         ErrorKind::UnexpectedEof,
     ];
-    let bytes = [7u8; 276];
+    let bytes = [b'7'; 276];
     for kind in kinds {
         let mut pieces = Pieces::new(bytes.as_slice(), 100);
         pieces.fails_at = Some(2);
         pieces.kind = kind;
-        let reading = read_all(rt.alloc(), pieces);
+        let reading = read_all(rt.alloc(), pieces, READS);
         assert_eq!(rt; reading.answer.err(), Some(Error::ReadFault));
-        assert_eq!(rt; reading.reads, 2);
-        assert!(rt; reading.failed);
-        assert_eq!(rt; reading.fault, Some(kind));
+        assert_eq!(rt; reading.reader.reads, 2);
+        assert_eq!(rt; reading.reason, Some(kind));
     }
 }
 
 #[test]
 fn an_interrupted_read_is_tried_again(rt: HostRuntime) -> Result<(), Fail> {
-    let bytes = [7u8; 276];
+    let bytes = [b'7'; 276];
     for interrupted_at in 1..5 {
         let mut pieces = Pieces::new(bytes.as_slice(), 100);
         pieces.interrupted_at = Some(interrupted_at);
-        let reading = read_all(rt.alloc(), pieces);
+        let reading = read_all(rt.alloc(), pieces, READS);
+        assert_eq!(rt; reading.reader.reads, 5);
+        assert_eq!(rt; reading.reason, None);
         assert_eq!(rt; reading.answer?.as_slice(), bytes.as_slice());
-        assert_eq!(rt; reading.reads, 5);
-        assert!(rt; !reading.failed);
-        assert_eq!(rt; reading.fault, None);
     }
     Ok(())
 }
@@ -78,39 +76,31 @@ fn an_interrupted_read_is_tried_again(rt: HostRuntime) -> Result<(), Fail> {
 #[test]
 fn reads_without_end_are_given_up(rt: HostRuntime) {
     assert_eq!(rt; READS, 16_777_216);
-    // An input with five reads left.
-    let mut input = nearly_given_up(Restless, 5);
-    let mut answer = input.read_all(rt.alloc()).err();
-    if answer == Some(Error::Memory) {
-        answer = input.read_all(rt.alloc()).err();
-    }
-    assert_eq!(rt; answer, Some(Error::ReadFault));
-    assert_eq!(rt; input.reads, READS);
-    assert_eq!(rt; input.faults, 0);
+    let reading = read_all(rt.alloc(), Restless { reads: 0 }, 5);
+    assert_eq!(rt; reading.answer.err(), Some(Error::ReadFault));
+    assert_eq!(rt; reading.reader.reads, 5);
+    assert_eq!(rt; reading.reason, None);
 }
 
 #[test]
 fn the_last_permitted_read_counts(rt: HostRuntime) {
-    let bytes = [7u8; 3];
+    let bytes = [b'7'; 3];
     let pieces = Pieces::new(bytes.as_slice(), 3);
     let mut failing = pieces;
     failing.fails_at = Some(2);
     // The second read finds the end, or fails; with one read the end isn't reached.
+    let failed = Some(ErrorKind::Other);
     let cases = [
-        (pieces, 2, None, false),
-        (failing, 2, Some(Error::ReadFault), true),
-        (pieces, 1, Some(Error::ReadFault), false),
+        (pieces, 2, None, None, 2),
+        (failing, 2, Some(Error::ReadFault), failed, 2),
+        (pieces, 1, Some(Error::ReadFault), None, 1),
+        (pieces, 0, Some(Error::ReadFault), None, 0),
     ];
-    for (pieces, left, want, failed) in cases {
-        let mut input = nearly_given_up(pieces, left);
-        let mut answer = input.read_all(rt.alloc()).err();
-        if answer == Some(Error::Memory) {
-            input = nearly_given_up(pieces, left);
-            answer = input.read_all(rt.alloc()).err();
-        }
-        assert_eq!(rt; answer, want);
-        assert_eq!(rt; input.faults > 0, failed);
-        assert_eq!(rt; input.reads, READS);
+    for (pieces, most, want, reason, reads) in cases {
+        let reading = read_all(rt.alloc(), pieces, most);
+        assert_eq!(rt; reading.answer.err(), want);
+        assert_eq!(rt; reading.reason, reason);
+        assert_eq!(rt; reading.reader.reads, reads);
     }
 }
 
@@ -144,19 +134,39 @@ fn a_buffer_grows_by_a_quarter_and_seldom(rt: HostRuntime) -> Result<(), Fail> {
 #[test]
 fn a_long_input_comes_whole(rt: HostRuntime) -> Result<(), Fail> {
     let end = 1_100_003;
-    let reading = read_all(rt.alloc(), Places { next: 0, end });
+    let places = Places {
+        next: 0,
+        end,
+        reads: 0,
+    };
+    let reading = read_all(rt.alloc(), places, READS);
     // 135 pieces and the end.
-    assert_eq!(rt; reading.reads, 136);
+    assert_eq!(rt; reading.reader.reads, 136);
     let read = reading.answer?;
     assert_eq!(rt; read.len(), 1_100_003);
     // At most a quarter and a piece more; a buffer that doubles would have 2,097,152.
     assert!(rt; read.capacity() < 1_400_000);
     let mut place = 0u32;
     for byte in &read {
-        assert_eq!(rt; u32::from(*byte), place % 256);
+        assert_eq!(rt; u32::from(*byte), 32 + place % 95);
         place = place.wrapping_add(1);
     }
     Ok(())
+}
+
+#[test]
+fn a_text_is_refused_at_the_piece_that_no_text_has(rt: HostRuntime) {
+    let cases = [
+        (b"ticks = 1\x00".as_slice(), 3, 4),
+        (b"\x00\x00\x00\x00", 2, 1),
+        (b"name = \"\xED\xA0\x80\"", 8, 2),
+    ];
+    for (bytes, piece, reads) in cases {
+        let reading = read_all(rt.alloc(), Pieces::new(bytes, piece), READS);
+        assert_eq!(rt; reading.answer.err(), Some(Error::BadFile(Part::Text, 0)));
+        assert_eq!(rt; reading.reader.reads, reads);
+        assert_eq!(rt; reading.reason, None);
+    }
 }
 
 #[test]
@@ -175,10 +185,13 @@ fn a_write_that_fails_is_a_write_fault(rt: HostRuntime) {
 }
 
 /// Audits the reader's bytes, and writes into `room`.
-fn audit_once<R: Read + Drop>(alloc: Global, reader: R, room: &mut [u8]) -> Result<bool, Error> {
-    let mut input = Input::new(reader);
+fn audit_once<R: Read + Drop>(
+    alloc: Global,
+    mut reader: R,
+    room: &mut [u8],
+) -> Result<bool, Error> {
     let mut output = Output::new(alloc, room);
-    audit_file(alloc, &mut input, &mut output)
+    answer_of(&audit_file(alloc, &mut reader, &mut output))
 }
 
 /// As `audit_once`, with another call if an allocation failed.
@@ -238,14 +251,12 @@ fn text_is_flushed_after_it_is_written(rt: HostRuntime) -> Result<(), Fail> {
     Ok(())
 }
 
-/// Audits an internet of nothing, after an earlier call of the input and of the output has failed.
+/// Audits an internet of nothing, after an earlier write of the output has failed.
 fn audit_after_failures(alloc: Global) -> Result<bool, Error> {
     let mut room = [0u8; 80];
-    let mut input = Input::new(Pieces::new(EMPTY, 3));
     let mut output = Output::new(alloc, room.as_mut_slice());
-    input.faults = 1;
     output.faults = 1;
-    audit_file(alloc, &mut input, &mut output)
+    answer_of(&audit_file(alloc, &mut Pieces::new(EMPTY, 3), &mut output))
 }
 
 #[test]
@@ -257,36 +268,36 @@ fn an_earlier_failure_refuses_nothing(rt: HostRuntime) {
     assert_eq!(rt; answer, Ok(true));
 }
 
-/// Whether an input keeps its image when it is audited, and the byte at its flaw, unless an
+/// Whether an audit returns the image with its verdict, and the byte at its flaw, unless an
 /// allocation fails.
-fn keeps(alloc: Global, bytes: &[u8]) -> Option<(bool, Option<u8>)> {
+fn returns(alloc: Global, bytes: &[u8]) -> Option<(Option<bool>, Option<u8>)> {
     let mut room = [0u8; 80];
-    let mut input = Input::new(Pieces::new(bytes, 3));
     let mut output = Output::new(alloc, room.as_mut_slice());
-    let answer = audit_file(alloc, &mut input, &mut output);
-    if answer == Err(Error::Memory) {
-        None
-    } else {
-        Some((input.image.is_some(), input.flawed))
+    match audit_file(alloc, &mut Pieces::new(bytes, 3), &mut output) {
+        Ok(it) => Some((Some(it.verdict.is_yes()), None)),
+        Err(refused) => match refused.error {
+            Error::Memory => None,
+            _ => Some((None, refused.flawed)),
+        },
     }
 }
 
 #[test]
-fn an_input_keeps_its_image_or_the_byte_at_its_flaw(rt: HostRuntime) {
+fn an_audit_returns_its_verdict_or_the_byte_at_the_flaw(rt: HostRuntime) {
     let cases = [
-        (EMPTY, (true, None)),
-        (BACKWARD, (true, None)),
-        (b"ATIN".as_slice(), (false, Some(0x41))),
-        (b"ATIM\x02".as_slice(), (false, None)),
-        (b"ATIM\x03".as_slice(), (false, Some(3))),
-        (b"ATIM".as_slice(), (false, None)),
+        (EMPTY, (Some(true), None)),
+        (BACKWARD, (Some(false), None)),
+        (b"ATIN".as_slice(), (None, Some(0x41))),
+        (b"ATIM\x02".as_slice(), (None, None)),
+        (b"ATIM\x03".as_slice(), (None, Some(3))),
+        (b"ATIM".as_slice(), (None, None)),
     ];
     for (bytes, wanted) in cases {
-        let kept = match keeps(rt.alloc(), bytes) {
-            None => keeps(rt.alloc(), bytes),
-            kept => kept,
+        let given = match returns(rt.alloc(), bytes) {
+            None => returns(rt.alloc(), bytes),
+            given => given,
         };
-        assert_eq!(rt; kept, Some(wanted));
+        assert_eq!(rt; given, Some(wanted));
     }
 }
 
@@ -294,8 +305,10 @@ fn an_input_keeps_its_image_or_the_byte_at_its_flaw(rt: HostRuntime) {
 fn read_failing(alloc: Global, bytes: &[u8], piece: usize, at: u32) -> Result<usize, Error> {
     let mut pieces = Pieces::new(bytes, piece);
     pieces.fails_at = Some(at);
-    let image = read_from(alloc, &mut Input::new(pieces))?;
-    Ok(image.cables().len())
+    match read_image(alloc, &mut pieces) {
+        Ok(image) => Ok(image.cables().len()),
+        Err(refused) => Err(refused.error),
+    }
 }
 
 #[test]
@@ -323,9 +336,11 @@ fn a_fault_in_bytes_that_were_read_comes_before_a_failure(rt: HostRuntime) {
 /// The refusal of an image without end, and the number of reads.
 fn read_endless(alloc: Global) -> (Option<Error>, u32) {
     let first = b"ATIM\x01\x01".as_slice();
-    let mut input = Input::new(Endless { first, reads: 0 });
-    let answer = read_from(alloc, &mut input);
-    (answer.err(), input.reader.reads)
+    let mut reader = Endless { first, reads: 0 };
+    match read_image(alloc, &mut reader) {
+        Ok(_) => (None, reader.reads),
+        Err(refused) => (Some(refused.error), reader.reads),
+    }
 }
 
 #[test]

@@ -5,12 +5,11 @@
 #![tactic(auto)]
 
 use at_base::Error;
-use image_feed::Feed;
+use image_feed::{Feed, read};
 use std::alloc::Global;
 use std::io::Read;
 use std::rt::Env;
 use std::{env, io};
-use table_image::read;
 
 /// How an image is cut.
 #[derive(Clone, Copy)]

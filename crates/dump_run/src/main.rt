@@ -9,6 +9,7 @@ use audit::Verdict;
 use cable_model::Entry;
 use dump_lines::{number_of, put_entry};
 use frozen::Frozen;
+use image_feed::read as image_in;
 use rtmp::{RouteTable, Routes};
 use script::{Step, read as steps_in};
 use std::alloc::Global;
@@ -16,7 +17,6 @@ use std::io::{Write, writer};
 use std::process::ExitCode;
 use std::rt::{Env, Files};
 use std::{env, fs};
-use table_image::read as image_in;
 use text::{Output, put_decimal};
 
 /// The greatest number of entries of a trace.

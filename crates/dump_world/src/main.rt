@@ -43,7 +43,10 @@ fn print<T: RouteTable, W: Write>(world: &World<T>, output: &mut Output<W>) -> R
 
 /// Plays a file, and prints its transcript, also if a tick has an error.
 fn print_play<W: Write>(alloc: Global, text: &[u8], output: &mut Output<W>) -> Result<(), Error> {
-    let plan = read(alloc, text)?;
+    let plan = match read(alloc, text) {
+        Ok(plan) => plan,
+        Err(refused) => return Err(refused.error),
+    };
     let mut world = World::<Routes>::new(alloc, plan)?;
     let answer = play(&mut world);
     print(&world, output)?;

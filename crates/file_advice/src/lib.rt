@@ -1,25 +1,16 @@
-//! Explains to a person at a terminal which key of an internet file or a tables file is wrong, and
-//! why. It writes only to standard error, and promises only to return.
+//! Words for the faults of internet files and tables files, and for the actions of a play that were
+//! refused.
 #![tactic(auto)]
 
-mod bytes;
-mod cable;
-mod check;
-mod event;
-mod explain;
-mod fault;
-mod internet;
-mod internet_fault;
-mod key;
+mod found;
+mod lines;
 mod must;
-mod order;
-mod placed;
-mod shape;
-mod station;
-mod table_node;
-mod table_router;
-mod tables;
-mod tables_fault;
-mod value;
+mod sentence;
+mod settled;
+mod shown;
+mod telling;
+mod undone;
 
-pub use explain::{explain_entry, explain_tables};
+pub use settled::{write_other_zones, write_shared_tries};
+pub use telling::{Format, explain, write};
+pub use undone::write_undone;

@@ -1,63 +1,79 @@
-//! The values that the keys of internet files and tables files require.
+//! What values have to be.
 
-/// The requirement on the value at a key, or on a value of a list.
-#[derive(Clone, Copy, Debug, PartialEq, Eq)]
-pub(crate) enum Must {
-    Tables,
-    Number,
-    Range,
-    Zones,
-    Zone,
-    Ports,
-    Hardware,
-    Addresses,
-    Address,
-    Names,
-    Entity,
-    Word,
-    Digits,
-    Pattern,
-    Text,
-    Version,
-    Ends,
-    ZoneList,
-    TableList,
-    PortNumber,
-    State,
-    Truth,
+use file_entries::{Rising, Why, Words};
+use std::io;
+use std::io::Write;
+
+/// Writes how many bytes or values there have to be.
+fn write_count<W: Write>(writer: &mut W, low: usize, high: usize, what: &str) -> io::Result<()> {
+    if low == 0 {
+        write!(writer, "at most {high} {what}")
+    } else {
+        write!(writer, "{low} to {high} {what}")
+    }
 }
 
-impl Must {
-    /// The words that follow "has to be".
-    pub(crate) fn words(self) -> &'static str {
-        match self {
-            Must::Tables => "a list of tables, whose headers have double brackets",
-            Must::Number => "the number of one in the file, counted from 1",
-            Must::Range => {
-                "a list of the first and the last network, 1 to 65279, the first not above the last"
-            }
-            Must::Zones => "a list of 1 to 255 names of zones",
-            Must::Zone => "the name of a zone: 1 to 32 printable ASCII characters, not * alone",
-            Must::Ports => "a list of 1 to 16 tables",
-            Must::Hardware => "a text of 12 hexadecimal digits, without colons",
-            Must::Addresses => "a list of at most 16 addresses",
-            Must::Address => "an address as \"10.7\"",
-            Must::Names => "a list of at most 32 tables",
-            Must::Entity => "a text of 1 to 32 bytes, not = alone and without the byte C5",
-            Must::Word => "\"send\" or \"lookup\"",
-            Must::Digits => "a text of an even number of hexadecimal digits",
-            Must::Pattern => "a text of 1 to 32 bytes",
-            Must::Text => "a text of at most 32 bytes",
-            Must::Version => "1, or 2 for mappings and for 65 to 255 zones of a range",
-            Must::Ends => {
-                "a list of the first and the last network, each 0 to 65535; one network alone is \
-                both, as [30, 30]"
-            }
-            Must::ZoneList => "a list of names of zones",
-            Must::TableList => "a list of tables",
-            Must::PortNumber => "the number of one of the router's ports, counted from 1",
-            Must::State => "\"Good\", \"Suspect\", \"Bad\" or \"Last\"",
-            Must::Truth => "true or false",
+/// The words for what a value has to be that isn't so.
+fn words(why: Why) -> &'static str {
+    match why {
+        Why::NoTable => "a table",
+        Why::NoList => "a list",
+        Why::NoInteger => "a whole number",
+        Why::NoTruth => "true or false",
+        Why::NoText => "a text",
+        Why::NoPair => {
+            "a list of the first and the last network; one network alone is both, as [30, 30]"
         }
+        Why::NoZone => "the name of a zone: 1 to 32 printable ASCII characters, not * alone",
+        Why::NoAddress => "an address as \"10.7\"",
+        Why::NoHardware => "a text of 12 hexadecimal digits, without colons",
+        Why::NoDigits => "a text of an even number of hexadecimal digits",
+        Why::NoWord {
+            words: Words::Actions,
+        } => "\"send\" or \"lookup\"",
+        Why::NoWord {
+            words: Words::States,
+        } => "\"Good\", \"Suspect\", \"Bad\" or \"Last\"",
+        Why::Untried => "an address on the cable, with node 1 to 253",
+        Why::NoEntity => "1 to 32 bytes, not = alone and without the byte C5",
+        Why::Unprintable => "a text of bytes 20 to 7E",
+        _ => "valid",
+    }
+}
+
+/// Writes what a value has to be that isn't so.
+pub(crate) fn write_must<W: Write>(writer: &mut W, why: Why) -> io::Result<()> {
+    match why {
+        Why::Outside { low, high } => write!(writer, "it has to be from {low} to {high}"),
+        Why::Absent { count: 1 } => write!(writer, "it has to be a number from 1, and there is 1"),
+        Why::Absent { count } => {
+            write!(
+                writer,
+                "it has to be a number from 1, and there are {count}"
+            )
+        }
+        Why::Length { low, high } => {
+            write!(writer, "it has to be a text of ")?;
+            write_count(writer, low, high, "bytes")
+        }
+        Why::Count { low, high } => {
+            write!(writer, "it has to have ")?;
+            write_count(writer, low, high, "values")
+        }
+        Why::Reversed => write!(writer, "the first number has to be the smaller one"),
+        Why::Falls { by: Rising::Range } => {
+            write!(
+                writer,
+                "the first network has to be above that of the one before"
+            )
+        }
+        Why::Falls { .. } => write!(writer, "it has to be above that of the one before"),
+        Why::Overlaps { port } => {
+            write!(
+                writer,
+                "the cable has a network in common with that of port {port}"
+            )
+        }
+        why => write!(writer, "it has to be {}", words(why)),
     }
 }

@@ -1,6 +1,6 @@
 -- Bounds of values that exist.
-use Rattle.std.proofs.Common.{◌≡◌, ℕ, zero, suc, ◌+◌, ◌*◌, ◌≤◌, Bool, true, ◌&&◌, ◌==◌, List, [], ◌∷◌, length, refl, sym, ap, subst, arith}
-use Rattle.std.specs.Prelude.{Option, Some, None, ℤ, pos, negsuc, cond, nat_le, option_map}
+use Rattle.std.proofs.Common.{◌≡◌, ℕ, suc, ◌*◌, ◌≤◌, ◌&&◌, ◌==◌, List, [], ◌∷◌, length, refl, subst, arith}
+use Rattle.std.specs.Prelude.{Option, Some, None, ℤ, pos, negsuc, nat_le, option_map}
 use Rattle.std.specs.List.{slice_split}
 use Rattle.std.proofs.lemmas.Bool.{and_parts, eqb-true, leb-true}
 use Rattle.toml.specs.Data.{Data, as_integer, as_str}

@@ -1,4 +1,5 @@
 pub mod Lists
+pub mod Notes
 pub mod Turns
 pub mod Given
 pub mod Bounds

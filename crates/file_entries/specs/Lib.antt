@@ -1,3 +1,5 @@
 pub mod Values
 pub mod Entries
+pub mod Faults
+pub mod Texts
 pub mod Documents

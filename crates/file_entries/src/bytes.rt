@@ -2,11 +2,14 @@
 
 ghost use Rattle.std.specs.Prelude.{◌≡◌, ◌<◌, ◌∷◌, ◌+◌, Some, None, length};
 ghost use Rattle.std.specs.Prelude.{IfOk, IfSome, IfNone, IsOkUnless};
+ghost use Rattle.std.specs.Result.{result_ok};
 ghost use Rattle.text.specs.Words as words_spec;
 ghost use Rattle.text.specs.Words.{given};
 ghost use Rattle.toml.specs.View.{view};
 ghost use Rattle.file_entries.specs.Values as spec;
 
+use crate::value::text;
+use crate::why::Why;
 use at_base::{Bytes, Error, Hw};
 use std::alloc::Global;
 use text::hex::{nibble, pairs};
@@ -47,23 +50,27 @@ fn six_bytes(digits: &[u8]) -> Option<[u8; 6]>
 }
 
 /// A hardware address: twelve hexadecimal digits.
-pub fn hardware(value: &Value) -> Option<Hw>
-    ensures { result ≡ spec.hardware (view value.now) }
+pub fn hardware(value: &Value) -> Result<Hw, Why>
+    ensures { result_ok result ≡ spec.hardware (view value.now) }
 {
-    let digits = value.as_str()?.as_bytes();
+    let digits = text(value)?;
     if digits.len() != 12 {
-        return None;
+        return Err(Why::NoHardware);
     }
-    Some(Hw(six_bytes(digits)?))
+    match six_bytes(digits) {
+        Some(bytes) => Ok(Hw(bytes)),
+        None => Err(Why::NoHardware),
+    }
 }
 
 /// An even number of hexadecimal digits. Error: `Memory`.
-pub fn hex(alloc: Global, value: &Value) -> Result<Option<Bytes>, Error>
-    ensures read { IfOk result (λ x. x ≡ spec.hex (view value.now)) }
+pub fn hex(alloc: Global, value: &Value) -> Result<Result<Bytes, Why>, Error>
+    ensures read { IfOk result (λ x. result_ok x ≡ spec.hex (view value.now)) }
     ensures refused { IsOkUnless result Error.Memory }
 {
-    match value.as_str() {
-        Some(digits) => pairs(alloc, digits.as_bytes()),
-        None => Ok(None),
-    }
+    let digits = match text(value) {
+        Ok(digits) => digits,
+        Err(why) => return Ok(Err(why)),
+    };
+    Ok(pairs(alloc, digits)?.ok_or(Why::NoDigits))
 }

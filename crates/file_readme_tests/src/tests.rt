@@ -3,9 +3,11 @@
 
 mod of_audit;
 mod of_drawing;
+mod of_file_advice;
 mod of_file_entries;
 mod of_image_feed;
 mod of_internet_file;
+mod of_judge;
 mod of_script;
 mod of_table_image;
 mod of_tables_file;

@@ -1,4 +1,4 @@
 pub mod EntryLines
 pub mod Growth
 pub mod Told
-pub mod Traced
+pub mod Began

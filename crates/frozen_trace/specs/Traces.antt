@@ -1,13 +1,9 @@
 -- The effects of a script's steps on a run over frozen tables, and the text that is printed.
-use Rattle.std.specs.Prelude.{◌≡◌, ◌≢◌, ℕ, Bool, true, false, List, [], ◌∷◌, ◌++◌, None, Some, codes, drop, length}
+use Rattle.std.specs.Prelude.{◌≡◌, ◌≢◌, ℕ, Bool, List, [], ◌∷◌, ◌++◌, None, Some, codes, drop, length}
 use Rattle.std.specs.Fmt.{decimal}
 use Rattle.at_base.specs.ErrorNumber.{number_of}
 use Rattle.at_base.specs.declared.error.Error.{Error}
 use Rattle.at_base.specs.declared.error.Error.TheVariants.{Memory}
-use Rattle.at_base.specs.declared.error.Fault.{Fault}
-use Rattle.audit.specs.Rules.{Passes}
-use Rattle.audit.specs.Verdicts.{IsFirst, verdict_line}
-use Rattle.audit.specs.declared.verdict.Verdict.TheVariants.{No}
 use Rattle.cable_model.specs.Logs.{transcript}
 use Rattle.cable_model.specs.Transcript.{Entry}
 use Rattle.events.specs.declared.event.Event.{Event}
@@ -76,9 +72,3 @@ pub record IsTrace (i : Internet) (steps : List Step) (text : List ℕ) : Type 0
   pub played : List ℕ
   pub plays : PlaysAll begun steps played ended
   pub whole : text ≡ played ++ pending_line ended
-
--- The text that is printed for these steps over an internet: if it passes the audit, the result is true and the text is
--- their trace; otherwise the text is the line of the audit's first fault.
-abbrev pub IsPrinted : Internet → List Step → Bool → List ℕ → Type 0
-IsPrinted i steps true text = Passes i × IsTrace i steps text
-IsPrinted i steps false text = (f : Fault) × IsFirst i f × (text ≡ verdict_line (No f) ++ 10 ∷ [])

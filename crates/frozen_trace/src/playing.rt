@@ -7,6 +7,7 @@ ghost use Rattle.script.specs.declared.step.Step.TheVariants as step;
 ghost use Rattle.text.specs.Writing.{Prints};
 
 use crate::printing::{print_from, refuse};
+use crate::refusals::Refusals;
 use at_base::Error;
 use events::Event;
 use frozen::Frozen;
@@ -24,6 +25,7 @@ fn play_event<T: RouteTable, W: Write>(
     event: &Event,
     lines: &mut Lines,
     output: &mut Output<W>,
+    refusals: &mut Refusals,
 ) -> Result<(), Error>
     requires known { lines.old ≡ all_printed run.old }
     ensures played { OnOk result ((more : List ℕ)
@@ -36,7 +38,10 @@ fn play_event<T: RouteTable, W: Write>(
     let before = run.transcript().len();
     match run.event(event) {
         Ok(()) => print_from(run, before, lines, output),
-        Err(error) => refuse(alloc, output, &error),
+        Err(error) => {
+            refusals.note(error);
+            refuse(alloc, output, &error)
+        }
     }
 }
 
@@ -48,6 +53,7 @@ fn play_drain<T: RouteTable, W: Write>(
     most: u32,
     lines: &mut Lines,
     output: &mut Output<W>,
+    refusals: &mut Refusals,
 ) -> Result<(), Error>
     requires known { lines.old ≡ all_printed run.old }
     ensures played { OnOk result ((more : List ℕ)
@@ -66,7 +72,10 @@ fn play_drain<T: RouteTable, W: Write>(
                     return Ok(());
                 }
             }
-            Err(error) => return refuse(alloc, output, &error),
+            Err(error) => {
+                refusals.note(error);
+                return refuse(alloc, output, &error);
+            }
         }
     }
     Ok(())
@@ -79,6 +88,7 @@ fn play_step<T: RouteTable, W: Write>(
     step: &Step,
     lines: &mut Lines,
     output: &mut Output<W>,
+    refusals: &mut Refusals,
 ) -> Result<(), Error>
     requires known { lines.old ≡ all_printed run.old }
     ensures played { OnOk result ((more : List ℕ)
@@ -89,18 +99,19 @@ fn play_step<T: RouteTable, W: Write>(
     ensures prints { Prints output.old.faults output.new.faults result }
 {
     match step {
-        Step::Event(event) => play_event(alloc, run, event, lines, output),
-        Step::Drain(most) => play_drain(alloc, run, *most, lines, output),
+        Step::Event(event) => play_event(alloc, run, event, lines, output, refusals),
+        Step::Drain(most) => play_drain(alloc, run, *most, lines, output, refusals),
     }
 }
 
-/// Carries out steps, one after the other.
+/// Carries out steps, one after the other, and notes those that are refused.
 pub fn play<T: RouteTable, W: Write>(
     alloc: Global,
     run: &mut Frozen<T>,
     steps: &[Step],
     lines: &mut Lines,
     output: &mut Output<W>,
+    refusals: &mut Refusals,
 ) -> Result<(), Error>
     requires known { lines.old ≡ all_printed run.old }
     ensures played { OnOk result ((more : List ℕ)
@@ -110,7 +121,8 @@ pub fn play<T: RouteTable, W: Write>(
     ensures prints { Prints output.old.faults output.new.faults result }
 {
     for step in steps {
-        play_step(alloc, run, step, lines, output)?;
+        refusals.begin();
+        play_step(alloc, run, step, lines, output, refusals)?;
     }
     Ok(())
 }

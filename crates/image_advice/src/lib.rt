@@ -1,14 +1,19 @@
-//! Explains a failed audit or an invalid image to a person at a terminal: the rule that is broken,
-//! the place that breaks it, the parts with which it was compared, and what to change. It writes
-//! only to standard error, and promises only to return.
+//! Explains an audit or an invalid image to a person at a terminal: of a no the rule that is broken,
+//! the place that breaks it, the parts with which it was compared, and what to change; of a yes what
+//! it doesn't cover. It writes only to standard error, and promises only to return.
 #![tactic(auto)]
 
 mod beside;
 mod fault;
+mod finding;
 mod item;
+mod joined;
 mod no;
 mod place;
 mod rule;
+mod stations;
+mod yes;
 
 pub use fault::{explain_flaw, explain_kind};
-pub use no::{explain_no, explain_no_of_bytes};
+pub use no::explain_no;
+pub use yes::explain_yes;

@@ -1,5 +1,7 @@
 //! The rules, each in a sentence, and what to change if one is broken.
 
+use crate::finding::Finding;
+
 /// The rule in a sentence.
 pub(crate) fn meaning(rule: u8) -> &'static str {
     match rule {
@@ -42,8 +44,35 @@ pub(crate) fn meaning(rule: u8) -> &'static str {
     }
 }
 
-/// What to change if the rule is broken.
-pub(crate) fn what_to_change(rule: u8) -> &'static str {
+/// What to change if the rule is broken, and this is wrong at its place.
+pub(crate) fn what_to_change(rule: u8, finding: Finding) -> &'static str {
+    match finding {
+        Finding::Rule => what_the_rule_says(rule),
+        Finding::Unsettled => {
+            "wait until it has settled, in a play for 11 ticks or more; if it never does, \
+             let it try an address that no other station of its cable tries."
+        }
+        Finding::HardwareElsewhere => {
+            "give the second station another hardware address in the file, \
+             whose first byte is even."
+        }
+        Finding::NoRouter => "give a router a port on that cable, or take the cable out.",
+        Finding::Apart(_) => {
+            "give a router a port on a cable of each group, or make a file of each group alone."
+        }
+        Finding::OtherRange(_, _, _) => {
+            "the seed ranges of all routers on that cable must be the same: \
+             change those that differ, and restart their routers."
+        }
+        Finding::NoCable => {
+            "if there is a cable with the range of the row, add it to the cables; if there is none, \
+             wait a minute or two until the row has aged out, and look again."
+        }
+    }
+}
+
+/// What to change if the rule is broken, and nothing more is known.
+fn what_the_rule_says(rule: u8) -> &'static str {
     match rule {
         1 => {
             "give each cable a range of its own and at least one zone in the seed router's \

@@ -97,7 +97,7 @@ fn is_kept(alloc: Global, bytes: &Vec<u8>, words: Words<'_>, text: &mut String) 
     if let Some(cut) = another(alloc, bytes.as_slice())? {
         writeln!(text, "another answer if they are cut at {cut}")?;
     }
-    let image = table_image::read(alloc, bytes.as_slice())?;
+    let image = image_feed::read(alloc, bytes.as_slice())?;
     let written = write(alloc, &image)?;
     let same = yes_or_no(written.as_slice() == bytes.as_slice());
     writeln!(text, "an image; written alike: {same}")?;

@@ -2,9 +2,9 @@
 
 use at_base::Error;
 use case_words::Stop;
-use image_feed::Feed;
+use image_feed::{Feed, read};
 use std::alloc::Global;
-use table_image::{Image, read, write};
+use table_image::{Image, write};
 
 /// What a feed gives of the bytes, cut at this place, and after that into pieces of this length.
 fn fed(alloc: Global, bytes: &[u8], cut: usize, piece: usize) -> Result<Image, Error> {

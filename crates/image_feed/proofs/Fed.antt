@@ -11,15 +11,15 @@ use Rattle.at_base.specs.Reading.{◌>>=◌, read}
 use Rattle.at_base.proofs.Fields.{IsBytes, bind_ok, err_is, pass_ok}
 use Rattle.table_image.specs.Flaws.{Here, fault_of, faults, flaw_after}
 use Rattle.table_image.specs.Internet.{Internet, internet}
-use Rattle.table_image.specs.Reading.{image_at, IsFirstFlaw, RefusesFirst, refusal}
+use Rattle.table_image.specs.Reading.{image_at, IsFirstFlaw, Refuses, RefusesFirst, refusal}
 use Rattle.table_image.specs.Sizes.{image_size}
 use Rattle.table_image.specs.Spelling.{image_spelling}
 use Rattle.table_image.specs.declared.flaw.Fault.{Fault}
 use Rattle.table_image.specs.declared.flaw.Flaw.{Flaw}
-use Rattle.table_image.specs.declared.flaw.Stop.{Stop}
-use Rattle.table_image.specs.declared.flaw.Stop.TheVariants as stops
+use Rattle.image_feed.specs.declared.stop.Stop.{Stop}
+use Rattle.image_feed.specs.declared.stop.Stop.TheVariants as stops
 use Rattle.table_image.proofs.Extents.{image_reaches}
-use Rattle.table_image.proofs.Whole.{all_takes, no_fault, one_flaw, one_reading, place_fits, read_no_flaw, refuses_first, reported_early, same_flaw}
+use Rattle.table_image.proofs.Whole.{all_takes, no_fault, no_flaw, one_flaw, one_reading, place_fits, read_no_flaw, refuses_first, reported_early, same_flaw}
 use Rattle.image_feed.specs.declared.tables.ImageHead.{ImageHead}
 use Rattle.image_feed.specs.declared.tables.Tables.{Tables}
 use Rattle.image_feed.specs.Feeds.{Fed, GoesOn, HasRead, IsRefused, Stands, Waits, cut_at, IsFlawed}
@@ -273,3 +273,8 @@ module _ (feed : Fed) (all : List ℕ) (none : feed.refused ≡ None) (h : HasRe
   short_first e f less told first =
       let found = short_refused e less told in
       found.2 ∙ ap refusal (same_flaw all found.0 f found.1 first)
+
+-- bytes with a flaw are refused for it
+pub refuses_flaw : (bytes : List ℕ) (e : Error) (f : Flaw) → Refuses bytes e → IsFirstFlaw bytes f → e ≡ refusal f
+refuses_flaw bytes e f (inl h) first = absurd (no_flaw bytes h.1 f h.2 first)
+refuses_flaw bytes e f (inr (g, h, is)) first = is ∙ ap refusal (same_flaw bytes g f h first)

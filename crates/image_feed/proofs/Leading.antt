@@ -8,8 +8,8 @@ use Rattle.at_base.specs.Reading.{◌>>=◌, field_at, list_at, read}
 use Rattle.at_base.proofs.Prefixes.{Stays, field_more, field_stays, read_more, read_stays}
 use Rattle.table_image.specs.Flaws.{Wrong, Here, Before, fault_of, faults}
 use Rattle.table_image.specs.declared.flaw.Fault.{Fault}
-use Rattle.table_image.specs.declared.flaw.Stop.{Stop}
-use Rattle.table_image.specs.declared.flaw.Stop.TheVariants as stops
+use Rattle.image_feed.specs.declared.stop.Stop.{Stop}
+use Rattle.image_feed.specs.declared.stop.Stop.TheVariants as stops
 use Rattle.table_image.proofs.Loop.{regroup}
 use Rattle.image_feed.specs.Growing.{Advances, Denies, IsCut, Leads, Steps, StopsAt, begun_on, count_on, counted_on, growth_on, items_on, later, like_of, none_left}
 

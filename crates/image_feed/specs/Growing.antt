@@ -6,8 +6,8 @@ use Rattle.at_base.specs.Reading.{◌>>=◌, field_at, list_at, read}
 use Rattle.table_image.specs.Flaws.{Wrong, faults}
 use Rattle.table_image.specs.Tests.{within}
 use Rattle.table_image.specs.declared.flaw.Fault.{Fault}
-use Rattle.table_image.specs.declared.flaw.Stop.{Stop}
-use Rattle.table_image.specs.declared.flaw.Stop.TheVariants as stops
+use Rattle.image_feed.specs.declared.stop.Stop.{Stop}
+use Rattle.image_feed.specs.declared.stop.Stop.TheVariants as stops
 
 -- ---- what a step of reading says
 

@@ -7,11 +7,12 @@ ghost use Rattle.image_feed.specs.Parts.{cable_head};
 ghost use Rattle.image_feed.specs.declared.front.Front.TheVariants.{Same};
 
 use crate::growth::Growing;
-use crate::head::read_head;
+use crate::head::{Head, read_head};
 use crate::names::Names;
+use crate::stop::Stop;
 use at_base::Name;
 use std::alloc::Global;
-use table_image::parts::{Context, Fault, FlatItem, Item, Stop, u16_at};
+use table_image::parts::{Context, Fault, u16_at};
 use table_image::{Cable, Listed};
 
 /// A cable without its zones.
@@ -30,22 +31,11 @@ pub(crate) struct GrowingCable {
     pub names: Names,
 }
 
-impl Item for CableHead {
+impl Head for CableHead {
     ghost spelling = { λ context low. cable_head };
 
-    ghost next = { λ _. 0 };
-
-    fn next_low(&self) -> u32 {
-        0
-    }
-
     #[tactic(auto, unfolding(crate::specs::Parts::cable_head))]
-    fn written_alike() {}
-}
-
-impl FlatItem for CableHead {
-    #[tactic(auto, unfolding(crate::specs::Parts::cable_head))]
-    fn flat_at(_context: Context, _low: u32, bytes: &[u8]) -> Result<(CableHead, &[u8]), Fault> {
+    fn head_at(_context: Context, _low: u32, bytes: &[u8]) -> Result<(CableHead, &[u8]), Fault> {
         let (start, rest) = u16_at(bytes)?;
         let (end, rest) = u16_at(rest)?;
         Ok((CableHead { start, end }, rest))

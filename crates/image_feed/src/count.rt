@@ -5,7 +5,8 @@ ghost use Rattle.table_image.specs.Counts.{size_of};
 ghost use Rattle.image_feed.specs.Growing.{Advances, count_on, none_left};
 
 use crate::cut::unless_cut;
-use table_image::parts::{CountSize, Stop, count_within};
+use crate::stop::Stop;
+use table_image::parts::{CountSize, count_within};
 
 /// Reads the count of a list, of this size, if it wasn't read before.
 pub(crate) fn read_count<'a>(

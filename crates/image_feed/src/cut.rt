@@ -2,10 +2,11 @@
 
 ghost use Rattle.std.specs.Prelude.{◌≡◌, ◌≢◌, IfErr, IfOk, None, false, true};
 ghost use Rattle.table_image.specs.Flaws.{faults};
-ghost use Rattle.table_image.specs.declared.flaw.Stop.TheVariants.{Refused};
+ghost use Rattle.image_feed.specs.declared.stop.Stop.TheVariants.{Refused};
 
+use crate::stop::Stop;
 use at_base::Cause;
-use table_image::parts::{Fault, Stop};
+use table_image::parts::Fault;
 
 /// Whether the fault is that the bytes end too early.
 #[inline(always)]

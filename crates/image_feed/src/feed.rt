@@ -1,7 +1,7 @@
 //! An image that comes in pieces.
 
 ghost use Rattle.std.specs.Prelude.{◌≡◌, ◌+◌, ◌^◌, ◌<◌, ◌++◌, ◌⊎◌, ℕ, List, [], None, Ok, Some, length};
-ghost use Rattle.std.specs.Prelude.{IfErr, IfOk, IsOk, IsOkAnd, IsOkUnless, MatchResult, OnOk};
+ghost use Rattle.std.specs.Prelude.{IfErr, IfOk, IsOk, IsOkAnd, OnOk};
 ghost use Rattle.std.specs.Result.{result_err};
 ghost use Rattle.at_base.specs.Spelling.{IsValue, Spells};
 ghost use Rattle.table_image.specs.Flaws.{flaw_after};
@@ -10,17 +10,18 @@ ghost use Rattle.table_image.specs.Reading.{IsFirstFlaw, refusal, RefusesFirst};
 ghost use Rattle.table_image.specs.Spelling.{image_spelling};
 ghost use Rattle.table_image.specs.declared.flaw.Fault.{Fault as FaultValue};
 ghost use Rattle.table_image.specs.declared.flaw.Flaw.{Flaw};
-ghost use Rattle.table_image.specs.declared.flaw.Stop.TheVariants.{Memory as MemoryStop, Refused};
+ghost use Rattle.image_feed.specs.declared.stop.Stop.TheVariants.{Memory as MemoryStop, Refused};
 ghost use Rattle.image_feed.specs.Feeds.{HasRead, Waits, cut_at};
 ghost use Rattle.image_feed.specs.Growing.{Leads, StopsAt, Wants};
 ghost use Rattle.image_feed.specs.Tables.{parts_internet, tables_on};
 
+use crate::stop::Stop;
 use crate::tables::{TableParts, Tables};
 use at_base::{Cause, Error};
 use std::alloc::{AllocError, Global};
 use std::marker::Model;
-use table_image::parts::{Fault, Stop};
-use table_image::{Image, Listed};
+use table_image::Image;
+use table_image::parts::Fault;
 
 /// The greatest number of bytes that a reader's image is fed at once.
 pub const MAX_PIECE: usize = 8_192;
@@ -39,6 +40,8 @@ pub struct Feed {
     // The number of bytes that were fed.
     fed: usize,
     refused: Option<Error>,
+    // The byte at which they have their flaw.
+    flawed: Option<u8>,
 }
 
 impl Model for Feed {
@@ -74,26 +77,25 @@ fn append(bytes: &mut Vec<u8>, piece: &[u8]) -> Result<(), AllocError>
     }
 }
 
-/// Reads what the bytes that were kept have, and keeps the rest.
-fn read_kept(tables: &mut Tables, kept: &mut Vec<u8>, spare: &mut Vec<u8>) -> Result<(), Stop>
-    ensures leads { OnOk result (Leads (tables_on tables.old) kept.old.items
-        (tables_on tables.new) kept.new.items) }
-    ensures waits { OnOk result (Waits tables.new kept.new.items) }
-    ensures stops { IfErr result (StopsAt (tables_on tables.old) kept.old.items) }
+/// Reads what the bytes have, and puts the rest into the room.
+fn read_bytes(tables: &mut Tables, bytes: &[u8], room: &mut Vec<u8>) -> Result<(), Stop>
+    ensures leads { OnOk result (Leads (tables_on tables.old) bytes.now
+        (tables_on tables.new) room.new.items) }
+    ensures waits { OnOk result (Waits tables.new room.new.items) }
+    ensures stops { IfErr result (StopsAt (tables_on tables.old) bytes.now) }
 {
-    let alloc = *kept.allocator();
-    let rest = match tables.advance(alloc, kept.as_slice()) {
+    let alloc = *room.allocator();
+    let rest = match tables.advance(alloc, bytes) {
         Ok(rest) => rest,
         Err(stop) => return Err(stop),
     };
-    spare.clear();
-    append(spare, rest)?;
-    std::mem::swap(kept, spare);
+    room.clear();
+    append(room, rest)?;
     Ok(())
 }
 
-/// Reads what the bytes that were kept and the piece have, and keeps the rest. While a name isn't
-/// whole, there is nothing to read.
+/// Reads what the bytes that were kept and the piece have, and keeps the rest. Where none were kept,
+/// the piece is read in place. While a name isn't whole, there is nothing to read.
 fn read_piece(
     tables: &mut Tables,
     kept: &mut Vec<u8>,
@@ -110,35 +112,28 @@ fn read_piece(
         (StopsAt (tables_on tables.old) (kept.old.items ++ piece.now)) }
 {
     let before = std::mem::replace(wanted, 0);
-    append(kept, piece)?;
-    if kept.len() < before {
-        *wanted = before;
-        return Ok(());
+    if kept.is_empty() {
+        read_bytes(tables, piece, kept)?;
+    } else {
+        append(kept, piece)?;
+        if kept.len() < before {
+            *wanted = before;
+            return Ok(());
+        }
+        read_bytes(tables, kept.as_slice(), spare)?;
+        std::mem::swap(kept, spare);
     }
-    read_kept(tables, kept, spare)?;
     *wanted = tables.wants(kept.as_slice());
     Ok(())
 }
 
 /// The refusal of a fault after so many bytes. An image's limits keep the offset of a flaw below
 /// 2 ^ 32.
-fn refused_at(fed: usize, fault: Fault) -> Error
+pub(crate) fn refused_at(fed: usize, fault: Fault) -> Error
     ensures { fed < fault.left + 2 ^ 32 → result ≡ refusal (flaw_after fed fault) }
 {
     let place = fed.saturating_sub(fault.left);
     Error::BadImage(u32::try_from(place).unwrap_or(u32::MAX), fault.cause)
-}
-
-/// The parts, twice, stored once. Error: `Memory`.
-fn twice<T: Drop>(alloc: Global, parts: Listed<T>) -> Result<(Listed<T>, Listed<T>), Error>
-    ensures same { IfOk result (λ both. (both.0 ≡ parts) × (both.1 ≡ parts)) }
-    ensures refused { IsOkUnless result Error.Memory }
-{
-    let parts = parts.into_shared(alloc);
-    match parts.share() {
-        Some(again) => Ok((parts, again)),
-        None => Err(Error::Memory),
-    }
 }
 
 /// The image of these parts.
@@ -147,21 +142,6 @@ fn image_of(parts: TableParts) -> Image
     ensures { result ≡ parts_internet parts }
 {
     Image::of(parts.version, parts.cables, parts.routers, parts.nodes)
-}
-
-/// The image of these parts, twice. Error: `Memory`.
-fn images_of(alloc: Global, parts: TableParts) -> Result<(Image, Image), Error>
-    requires { IsValue image_spelling (parts_internet parts) }
-    ensures image { IfOk result (λ images. images.0 ≡ parts_internet parts) }
-    ensures again { IfOk result (λ images. images.1 ≡ parts_internet parts) }
-    ensures refused { IsOkUnless result Error.Memory }
-{
-    let (cables, cables_again) = twice(alloc, parts.cables)?;
-    let (routers, routers_again) = twice(alloc, parts.routers)?;
-    let (nodes, nodes_again) = twice(alloc, parts.nodes)?;
-    let image = Image::of(parts.version, cables, routers, nodes);
-    let again = Image::of(parts.version, cables_again, routers_again, nodes_again);
-    Ok((image, again))
 }
 
 /// The refusal of so many bytes that end too early.
@@ -191,6 +171,15 @@ fn error_of(fed: usize, stop: Stop) -> Error
     }
 }
 
+/// The byte at which a reader of the bytes that were kept stopped, or of the piece, where none were.
+fn flawed_in(kept: &[u8], piece: &[u8], stop: Stop) -> Option<u8> {
+    let bytes = if kept.is_empty() { piece } else { kept };
+    match stop {
+        Stop::Memory => None,
+        Stop::Refused(fault) => bytes.get(bytes.len().checked_sub(fault.left)?).copied(),
+    }
+}
+
 impl Feed {
     /// An image of which nothing was fed. Error: `Memory`, which a new feed never needs.
     pub fn new(alloc: Global) -> Result<Feed, Error>
@@ -205,6 +194,7 @@ impl Feed {
             wanted: 0,
             fed: 0,
             refused: None,
+            flawed: None,
         })
     }
 
@@ -235,6 +225,7 @@ impl Feed {
             Err(stop) => {
                 let error = error_of(self.fed, stop);
                 self.refused = Some(error);
+                self.flawed = flawed_in(self.kept.as_slice(), piece, stop);
                 Err(error)
             }
         }
@@ -283,38 +274,8 @@ impl Feed {
         }
     }
 
-    /// The image that was fed, and the same again, where both share all that they have. Errors: the
-    /// refusal of a piece; else `BadImage`, if the bytes that were fed end too early; else
-    /// `Memory`.
-    pub fn finish_twice(self) -> Result<(Image, Image), Error>
-        ensures found { IfOk result (λ images. (all : List ℕ) → HasRead self all
-            → Spells image_spelling all images.0) }
-        ensures alike { IfOk result (λ images. images.1 ≡ images.0) }
-        ensures again { (e : Error) → self.refused ≡ Some e → result ≡ Err e }
-        ensures only { self.refused ≡ None → (all : List ℕ) → HasRead self all
-            → (i : Internet) → Spells image_spelling all i
-            → MatchResult result (λ images. images.0 ≡ i) (λ e. e ≡ Error.Memory) }
-        ensures first { self.refused ≡ None → (all : List ℕ) → HasRead self all
-            → (f : Flaw) → IsFirstFlaw all f → result ≡ Err (refusal f) }
-        ensures refused { IfErr result (λ e. self.refused ≡ None → (all : List ℕ)
-            → HasRead self all → (e ≡ Error.Memory) ⊎ RefusesFirst all e) }
-    {
-        let alloc = *self.kept.allocator();
-        match self.into_parts() {
-            Ok(parts) => images_of(alloc, parts),
-            Err(error) => Err(error),
-        }
-    }
-
     /// The byte at which a refused image has its flaw, if there is one.
     pub fn flawed_byte(&self) -> Option<u8> {
-        match self.refused {
-            Some(Error::BadImage(place, _)) => {
-                let left = self.fed.saturating_sub(place as usize);
-                let at = self.kept.len().checked_sub(left)?;
-                self.kept.get(at).copied()
-            }
-            _ => None,
-        }
+        self.flawed
     }
 }

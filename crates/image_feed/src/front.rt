@@ -3,14 +3,14 @@
 ghost use Rattle.std.specs.Prelude.{◌≡◌, ◌∷◌, ◌++◌, [], Some, drop, slice_get, take};
 ghost use Rattle.std.specs.Prelude.{IfOk, IsOkUnless, OnOk, unwrap_or};
 ghost use Rattle.std.specs.Option.{option_copied};
-ghost use Rattle.table_image.specs.declared.flaw.Stop.TheVariants.{Memory};
+ghost use Rattle.image_feed.specs.declared.stop.Stop.TheVariants.{Memory};
 ghost use Rattle.image_feed.specs.Fronts.{front_of, place_in};
 ghost use Rattle.image_feed.specs.declared.front.Front.TheVariants.{Same};
 
 use crate::several::listed;
+use crate::stop::Stop;
 use std::alloc::Global;
 use table_image::Listed;
-use table_image::parts::Stop;
 
 /// A value of which there can be another one.
 pub(crate) trait Again: Drop {

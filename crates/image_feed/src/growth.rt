@@ -3,15 +3,16 @@
 ghost use Rattle.std.specs.Prelude.{◌≡◌, [], ℕ, List, None, Some, suc, true};
 ghost use Rattle.std.specs.Prelude.{IsOkUnless, IsSome, OnOk};
 ghost use Rattle.std.specs.Option.{option_copied};
-ghost use Rattle.table_image.specs.declared.flaw.Stop.TheVariants.{Memory};
+ghost use Rattle.image_feed.specs.declared.stop.Stop.TheVariants.{Memory};
 ghost use Rattle.table_image.specs.declared.context.Context.{Context as ContextValue};
 ghost use Rattle.image_feed.specs.Growing.{Advances, Wants, growth_on, like_of, none_left};
 
 use crate::count::{after_next, is_none_left, read_count};
 use crate::several::make_room;
+use crate::stop::Stop;
 use std::alloc::Global;
 use table_image::Listed;
-use table_image::parts::{Context, CountSize, Stop};
+use table_image::parts::{Context, CountSize};
 
 /// A part of which the first fields may have been read. A part that was read before, which this one
 /// may be like, is given to each call.
@@ -24,7 +25,7 @@ pub(crate) trait Growing: Drop {
     ghost use Rattle.table_image.specs.Flaws.{Wrong, faults};
     ghost use Rattle.table_image.specs.declared.context.Context.{Context as ContextValue};
     ghost use Rattle.table_image.specs.declared.flaw.Fault.{Fault as FaultValue};
-    ghost use Rattle.table_image.specs.declared.flaw.Stop.TheVariants.{Memory};
+    ghost use Rattle.image_feed.specs.declared.stop.Stop.TheVariants.{Memory};
     ghost use Rattle.image_feed.specs.Growing.{Advances, Wants};
 
     /// The part.

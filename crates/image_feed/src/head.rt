@@ -4,10 +4,29 @@ ghost use Rattle.std.specs.Prelude.{◌≡◌, is_some};
 ghost use Rattle.image_feed.specs.Growing.{Advances, head_on};
 
 use crate::cut::unless_cut;
-use table_image::parts::{Context, FlatItem, Stop};
+use crate::stop::Stop;
+use table_image::parts::{Context, Fault};
+
+/// The fields of a part before its list.
+pub(crate) trait Head: Drop {
+    ghost use Rattle.std.specs.Prelude.{ℕ, true};
+    ghost use Rattle.at_base.specs.Grammar.{Grammar};
+    ghost use Rattle.at_base.specs.Reading.{Gives, read};
+    ghost use Rattle.table_image.specs.Flaws.{Wrong, faults};
+    ghost use Rattle.table_image.specs.declared.context.Context.{Context as ContextValue};
+
+    // The format of the head, given what it may refer to, and the number that the part before passes
+    // on.
+    ghost spelling: { ContextValue → ℕ → Grammar Wrong true Self };
+
+    /// The head at the front of the bytes, and the bytes after it.
+    fn head_at(context: Context, low: u32, bytes: &[u8]) -> Result<(Self, &[u8]), Fault>
+        ensures { Gives (λ x. (x.0, x.1.now)) result
+            (read faults (Self.spelling context low) bytes.now) };
+}
 
 /// Reads the head of a part, if it wasn't read before.
-pub(crate) fn read_head<'a, H: FlatItem>(
+pub(crate) fn read_head<'a, H: Head>(
     head: &mut Option<H>,
     context: Context,
     low: u32,
@@ -19,7 +38,7 @@ pub(crate) fn read_head<'a, H: FlatItem>(
     if head.is_some() {
         return Ok(bytes);
     }
-    match H::flat_at(context, low, bytes) {
+    match H::head_at(context, low, bytes) {
         Ok((found, rest)) => {
             *head = Some(found);
             Ok(rest)

@@ -3,8 +3,9 @@
 ghost use Rattle.std.specs.Prelude.{◌≡◌, true};
 ghost use Rattle.image_feed.specs.Zones.{head_of, list_head, with_head};
 
+use crate::head::Head;
 use at_base::{Cause, Name};
-use table_image::parts::{Context, Fault, FlatItem, Item, byte_within, rising_at, u16_at};
+use table_image::parts::{Context, Fault, byte_within, rising_at, u16_at};
 use table_image::{Listed, ZoneList};
 
 /// A zone list without its zones.
@@ -15,22 +16,11 @@ pub(crate) struct ListHead {
     pub complete: bool,
 }
 
-impl Item for ListHead {
+impl Head for ListHead {
     ghost spelling = { λ context low. list_head low };
 
-    ghost next = { λ _. 0 };
-
-    fn next_low(&self) -> u32 {
-        0
-    }
-
     #[tactic(auto, unfolding(crate::specs::Zones::list_head))]
-    fn written_alike() {}
-}
-
-impl FlatItem for ListHead {
-    #[tactic(auto, unfolding(crate::specs::Zones::list_head))]
-    fn flat_at(_context: Context, low: u32, bytes: &[u8]) -> Result<(ListHead, &[u8]), Fault> {
+    fn head_at(_context: Context, low: u32, bytes: &[u8]) -> Result<(ListHead, &[u8]), Fault> {
         let (start, rest) = rising_at(bytes, low)?;
         let (end, rest) = u16_at(rest)?;
         let (complete, rest) = byte_within(rest, 0, 1, Cause::Value)?;

@@ -17,6 +17,9 @@ mod node;
 mod port;
 mod router;
 mod several;
+mod stop;
 mod tables;
+mod whole;
 
 pub use feed::{Feed, MAX_PIECE};
+pub use whole::read;

@@ -5,7 +5,7 @@ ghost use Rattle.std.specs.Prelude.{IfNone, IfOk, IfSome, IsOkUnless, IsSome, On
 ghost use Rattle.std.specs.Option.{option_copied};
 ghost use Rattle.at_base.specs.Reading.{read};
 ghost use Rattle.table_image.specs.Flaws.{faults};
-ghost use Rattle.table_image.specs.declared.flaw.Stop.TheVariants.{Memory};
+ghost use Rattle.image_feed.specs.declared.stop.Stop.TheVariants.{Memory};
 ghost use Rattle.table_image.specs.declared.version.Version.{Version as VersionValue};
 ghost use Rattle.table_image.specs.declared.zone_list.ZoneList.{ZoneList as ListValue};
 ghost use Rattle.image_feed.specs.Growing.{Advances, Leads, Wants, items_on, none_left};
@@ -17,11 +17,12 @@ use crate::count::{after_next, is_none_left, read_count};
 use crate::front::{Again, Front, after_first, part_at, parts_of};
 use crate::head::read_head;
 use crate::heading::ListHead;
-use crate::names::Names;
-use at_base::Name;
+use crate::names::{Names, after_zones};
+use crate::stop::Stop;
 use at_base::limits::MAX_LISTS;
+use at_base::{Cause, Name};
 use std::alloc::Global;
-use table_image::parts::{Context, CountSize, Item, Stop, after_list};
+use table_image::parts::{Context, CountSize, Item, byte_within, rising_at, u16_at};
 use table_image::{Listed, Version, ZoneList};
 
 impl Again for ZoneList {
@@ -68,6 +69,28 @@ fn zones_of(list: Option<&ZoneList>) -> Option<&Listed<Name>>
 /// The most bytes of a zone list with so many zones.
 fn room_of(zones: usize) -> usize {
     zones.saturating_mul(33).saturating_add(6)
+}
+
+/// The bytes after the zone list, if they begin with it.
+#[inline(always)]
+#[tactic(auto, unfolding(table_image::specs::Spelling::zone_list_spelling))]
+fn after_list<'a>(list: &ZoneList, version: Version, low: u32, bytes: &'a [u8]) -> Option<&'a [u8]>
+    ensures { IfSome result (λ rest.
+        read faults (zone_list_spelling version low) bytes.now ≡ Ok (list.now, rest.now)) }
+{
+    let Ok((start, rest)) = rising_at(bytes, low) else {
+        return None;
+    };
+    let Ok((end, rest)) = u16_at(rest) else {
+        return None;
+    };
+    let Ok((complete, rest)) = byte_within(rest, 0, 1, Cause::Value) else {
+        return None;
+    };
+    if start != list.start || end != list.end || (complete == 1) != list.complete {
+        return None;
+    }
+    after_zones(list.zones.as_slice(), version, rest)
 }
 
 /// The bytes after the zone list, if they begin with it. Bytes that may end within it aren't looked

@@ -4,8 +4,9 @@ ghost use Rattle.image_feed.specs.Growing.{Advances, none_left};
 ghost use Rattle.image_feed.specs.Parts.{mappings_on};
 
 use crate::several::Several;
+use crate::stop::Stop;
 use at_base::limits::MAX_MAPPINGS;
-use table_image::parts::{Context, CountSize, Stop};
+use table_image::parts::{Context, CountSize};
 use table_image::{Mapping, Version};
 
 /// Reads what the bytes have of the mappings of a port or a node. An image of version 1 has none.

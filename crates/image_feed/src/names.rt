@@ -5,8 +5,8 @@ ghost use Rattle.std.specs.Prelude.{IfOk, IfSome, IsOkUnless, IsSome, OnOk, unwr
 ghost use Rattle.std.specs.Option.{option_copied};
 ghost use Rattle.at_base.specs.Reading.{list_at, read};
 ghost use Rattle.table_image.specs.Flaws.{faults};
-ghost use Rattle.table_image.specs.Spelling.{zone_spelling};
-ghost use Rattle.table_image.specs.declared.flaw.Stop.TheVariants.{Memory};
+ghost use Rattle.table_image.specs.Spelling.{zone_spelling, zones_spelling};
+ghost use Rattle.image_feed.specs.declared.stop.Stop.TheVariants.{Memory};
 ghost use Rattle.table_image.specs.declared.version.Version.{Version as VersionValue};
 ghost use Rattle.image_feed.specs.declared.front.Front.TheVariants.{Same};
 ghost use Rattle.image_feed.specs.Growing.{Advances, Leads, Steps, Wants, none_left};
@@ -16,9 +16,10 @@ ghost use Rattle.image_feed.specs.Zones.{names_on};
 use crate::count::{after_next, is_none_left, read_count};
 use crate::cut::{is_cut, none_if_cut};
 use crate::front::{Again, Front, after_first, first, parts_of};
+use crate::stop::Stop;
 use at_base::Name;
 use std::alloc::Global;
-use table_image::parts::{CountSize, Stop, after_name, name_at};
+use table_image::parts::{CountSize, name_at};
 use table_image::{Listed, Version};
 
 impl Again for Name {
@@ -35,6 +36,21 @@ pub(crate) struct Names {
     pub left: Option<u16>,
     /// The names that were read.
     pub front: Front<Name>,
+}
+
+/// The bytes after the name, if they begin with it.
+#[inline(always)]
+#[tactic(auto, unfolding(table_image::specs::Spelling::text_spelling))]
+fn after_name<'a>(name: &Name, bytes: &'a [u8]) -> Option<&'a [u8]>
+    ensures { IfSome result
+        (λ rest. read faults zone_spelling bytes.now ≡ Ok (name.now, rest.now)) }
+{
+    let length = name.as_slice().len();
+    let (len, after) = bytes.split_first()?;
+    if *len as usize != length || after.len() < length || !name.begins(after) {
+        return None;
+    }
+    Some(&after[length..])
 }
 
 /// How many of the names the bytes begin with, and the bytes after them. Not inlined: inside another
@@ -55,6 +71,34 @@ fn after_same<'a>(names: &[Name], bytes: &'a [u8]) -> (usize, &'a [u8])
         count += 1;
     }
     (count, rest)
+}
+
+/// The bytes after the names, if they begin with all of them.
+fn after_all<'a>(names: &[Name], bytes: &'a [u8]) -> Option<&'a [u8]>
+    ensures { IfSome result (λ rest.
+        list_at (λ low. read faults zone_spelling) (λ name. 0) 0 (length names.now) bytes.now
+        ≡ Ok (names.now, rest.now)) }
+{
+    let (count, rest) = after_same(names, bytes);
+    if count < names.len() {
+        return None;
+    }
+    Some(rest)
+}
+
+/// The bytes after a count and the names, if they begin with them.
+#[inline(always)]
+#[tactic(auto, unfolding(table_image::specs::Spelling::zones_spelling, table_image::specs::Spelling::counted))]
+pub(crate) fn after_zones<'a>(zones: &[Name], version: Version, bytes: &'a [u8]) -> Option<&'a [u8]>
+    ensures { IfSome result
+        (λ rest. read faults (zones_spelling version) bytes.now ≡ Ok (zones.now, rest.now)) }
+{
+    let (count, after) = bytes.split_first()?;
+    if *count as usize > version.zone_limit() || *count as usize != zones.len() {
+        return None;
+    }
+    let rest = after_all(zones, after)?;
+    Some(rest)
 }
 
 /// How many bytes a name has within which these end, or 0 where they don't say it.

@@ -6,15 +6,15 @@ ghost use Rattle.image_feed.specs.Parts.{IsNewNode, node_head, names_part};
 ghost use Rattle.image_feed.specs.declared.node.NodeHead.{NodeHead as HeadValue};
 
 use crate::growth::Growing;
-use crate::head::read_head;
+use crate::head::{Head, read_head};
 use crate::mappings::advance_mappings;
 use crate::several::Several;
+use crate::stop::Stop;
 use at_base::limits::MAX_NAMES;
 use at_base::{Addr, Hw, Name};
 use std::alloc::Global;
 use table_image::parts::{
-    Context, CountSize, Fault, FlatItem, Item, Stop, address_at, hardware_at, index_at, name_at,
-    own_router_at,
+    Context, CountSize, Fault, address_at, hardware_at, index_at, name_at, own_router_at,
 };
 use table_image::{Mapping, Node, NodeName};
 
@@ -39,22 +39,11 @@ pub(crate) struct GrowingNode {
     pub mappings: Several<Mapping>,
 }
 
-impl Item for NodeHead {
+impl Head for NodeHead {
     ghost spelling = { λ context low. node_head context.cables };
 
-    ghost next = { λ _. 0 };
-
-    fn next_low(&self) -> u32 {
-        0
-    }
-
     #[tactic(auto, unfolding(crate::specs::Parts::node_head))]
-    fn written_alike() {}
-}
-
-impl FlatItem for NodeHead {
-    #[tactic(auto, unfolding(crate::specs::Parts::node_head))]
-    fn flat_at(context: Context, _low: u32, bytes: &[u8]) -> Result<(NodeHead, &[u8]), Fault> {
+    fn head_at(context: Context, _low: u32, bytes: &[u8]) -> Result<(NodeHead, &[u8]), Fault> {
         let (cable, rest) = index_at(bytes, context.cables)?;
         let (address, rest) = address_at(rest)?;
         let (hardware, rest) = hardware_at(rest)?;

@@ -4,12 +4,13 @@ ghost use Rattle.std.specs.Prelude.{◌≡◌, true};
 ghost use Rattle.image_feed.specs.Parts.{IsNewPort, port_head};
 
 use crate::growth::Growing;
-use crate::head::read_head;
+use crate::head::{Head, read_head};
 use crate::mappings::advance_mappings;
 use crate::several::Several;
+use crate::stop::Stop;
 use at_base::{Addr, Hw};
 use std::alloc::Global;
-use table_image::parts::{Context, Fault, FlatItem, Item, Stop, address_at, hardware_at, index_at};
+use table_image::parts::{Context, Fault, address_at, hardware_at, index_at};
 use table_image::{Mapping, Port};
 
 /// A port without its mappings.
@@ -29,22 +30,11 @@ pub(crate) struct GrowingPort {
     pub mappings: Several<Mapping>,
 }
 
-impl Item for PortHead {
+impl Head for PortHead {
     ghost spelling = { λ context low. port_head context.cables };
 
-    ghost next = { λ _. 0 };
-
-    fn next_low(&self) -> u32 {
-        0
-    }
-
     #[tactic(auto, unfolding(crate::specs::Parts::port_head))]
-    fn written_alike() {}
-}
-
-impl FlatItem for PortHead {
-    #[tactic(auto, unfolding(crate::specs::Parts::port_head))]
-    fn flat_at(context: Context, _low: u32, bytes: &[u8]) -> Result<(PortHead, &[u8]), Fault> {
+    fn head_at(context: Context, _low: u32, bytes: &[u8]) -> Result<(PortHead, &[u8]), Fault> {
         let (cable, rest) = index_at(bytes, context.cables)?;
         let (address, rest) = address_at(rest)?;
         let (hardware, rest) = hardware_at(rest)?;

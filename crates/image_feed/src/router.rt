@@ -10,10 +10,11 @@ use crate::growth::{Growing, Growth};
 use crate::lists::Lists;
 use crate::port::GrowingPort;
 use crate::several::Several;
+use crate::stop::Stop;
 use at_base::limits::{MAX_PORTS, MAX_ROWS};
 use std::alloc::Global;
-use table_image::parts::{Context, CountSize, Stop};
-use table_image::{Listed, Router, Row, ZoneList};
+use table_image::parts::{Context, CountSize};
+use table_image::{Cable, Listed, Router, Row, ZoneList};
 
 /// A router of which the first parts may have been read.
 #[derive(Drop)]
@@ -31,6 +32,26 @@ fn lists_of(router: Option<&Router>) -> Option<&Listed<ZoneList>>
         Some(router) => Some(&router.lists),
         None => None,
     }
+}
+
+/// A router whose zone lists are those of the cables, in order, which the first router's usually
+/// are. `None` where a cable's zones can't be shared, or an allocation failed.
+pub(crate) fn router_like(alloc: Global, cables: &[Cable]) -> Option<Router> {
+    let mut lists = Vec::with_capacity(alloc, cables.len()).ok()?;
+    for cable in cables {
+        let list = ZoneList {
+            start: cable.start,
+            end: cable.end,
+            complete: true,
+            zones: cable.zones.again()?,
+        };
+        lists.push(list).ok()?;
+    }
+    Some(Router {
+        ports: Listed::from_vec(Vec::new(alloc)),
+        rows: Listed::from_vec(Vec::new(alloc)),
+        lists: Listed::from_vec(lists),
+    })
 }
 
 impl GrowingRouter {

@@ -1,7 +1,7 @@
 //! Lists of small parts: the count, and then each part as soon as its bytes are there.
 
 ghost use Rattle.std.specs.Prelude.{◌≡◌, [], None, Some, suc, true, IfOk, IfSome, IsOkUnless, IsSome, OnOk};
-ghost use Rattle.table_image.specs.declared.flaw.Stop.TheVariants.{Memory};
+ghost use Rattle.image_feed.specs.declared.stop.Stop.TheVariants.{Memory};
 ghost use Rattle.at_base.specs.Grammar.{one};
 ghost use Rattle.table_image.specs.Counts.{size_of};
 ghost use Rattle.image_feed.specs.Growing.{Advances, Steps, counted_on, none_left};
@@ -9,9 +9,10 @@ ghost use Rattle.image_feed.specs.Parts.{AreUnread};
 
 use crate::count::{after_next, is_none_left, read_count};
 use crate::cut::none_if_cut;
+use crate::stop::Stop;
 use std::alloc::Global;
 use table_image::Listed;
-use table_image::parts::{Context, CountSize, FlatItem, Stop};
+use table_image::parts::{Context, CountSize, FlatItem};
 
 /// A counted list of which the first parts were read.
 #[derive(Drop)]

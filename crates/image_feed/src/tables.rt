@@ -11,15 +11,14 @@ ghost use Rattle.image_feed.specs.Tables.{tables_on, version_in};
 
 use crate::cable::GrowingCable;
 use crate::growth::Growth;
-use crate::head::read_head;
+use crate::head::{Head, read_head};
 use crate::node::GrowingNode;
-use crate::router::GrowingRouter;
+use crate::router::{GrowingRouter, router_like};
+use crate::stop::Stop;
 use at_base::Cause;
 use at_base::limits::{MAX_CABLES, MAX_NODES, MAX_ROUTERS};
 use std::alloc::Global;
-use table_image::parts::{
-    Context, Fault, FlatItem, Item, Stop, byte_within, magic_at, router_like, wrong,
-};
+use table_image::parts::{Context, Fault, byte_within, magic_at, wrong};
 use table_image::{Cable, Listed, Node, Router, Version};
 
 /// The first fields of an image.
@@ -28,22 +27,11 @@ pub(crate) struct ImageHead {
     pub version: Version,
 }
 
-impl Item for ImageHead {
+impl Head for ImageHead {
     ghost spelling = { λ context low. image_head };
 
-    ghost next = { λ _. 0 };
-
-    fn next_low(&self) -> u32 {
-        0
-    }
-
     #[tactic(auto, unfolding(crate::specs::Tables::image_head))]
-    fn written_alike() {}
-}
-
-impl FlatItem for ImageHead {
-    #[tactic(auto, unfolding(crate::specs::Tables::image_head))]
-    fn flat_at(_context: Context, _low: u32, bytes: &[u8]) -> Result<(ImageHead, &[u8]), Fault> {
+    fn head_at(_context: Context, _low: u32, bytes: &[u8]) -> Result<(ImageHead, &[u8]), Fault> {
         let (_magic, rest) = magic_at(bytes)?;
         let (number, rest) = byte_within(rest, 1, 2, Cause::Version)?;
         let version = Version::of(number);

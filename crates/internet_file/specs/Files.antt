@@ -1,7 +1,7 @@
 -- Internet files: a network, and what happens in it in each tick.
 use Rattle.std.specs.Prelude.{ℕ, Bool, ◌&&◌, cond, List, [], ◌∷◌, Option, Some, None, Result, Ok, Err}
 use Rattle.std.specs.Prelude.{codes}
-use Rattle.toml.specs.Data.{Data, Members}
+use Rattle.toml.specs.Data.{Members}
 use Rattle.at_base.specs.declared.error.Error.{Error}
 use Rattle.at_base.specs.declared.error.Error.TheVariants.{BadFile}
 use Rattle.at_base.specs.declared.error.Part.TheVariants.{Top, Cable as CablePart, Router as RouterPart, Node as NodePart}
@@ -33,19 +33,24 @@ abbrev pub top_keys : List (List ℕ)
 top_keys =
     codes "ticks" ∷ codes "cable" ∷ codes "router" ∷ codes "node" ∷ codes "lose" ∷ codes "action" ∷ []
 
+-- The tables of a file are lists.
+abbrev pub are_listed : Members → Bool
+are_listed ms =
+    is_listed (codes "cable") ms && is_listed (codes "router") ms && is_listed (codes "node") ms
+    && is_listed (codes "lose") ms && is_listed (codes "action") ms
+
 -- The top level has only the keys of a file, and its tables are lists.
 abbrev pub is_top : Members → Bool
-is_top ms =
-    has_only top_keys ms && is_listed (codes "cable") ms && is_listed (codes "router") ms && is_listed (codes "node") ms
-    && is_listed (codes "lose") ms && is_listed (codes "action") ms
+is_top ms = has_only top_keys ms && are_listed ms
+
+-- The number of ticks, or the error of an invalid top level where there is no number.
+abbrev pub ticks_by : Option ℕ → Result ℕ Error
+ticks_by (Some ticks) = Ok ticks
+ticks_by None = Err (BadFile Top 0)
 
 -- The number of ticks in the file, if the top level is valid.
 unfoldable pub ticks_of : Members → Result ℕ Error
-ticks_of ms = of (cond (is_top ms) (at (codes "ticks") (number 1 100000) ms) None)
-  where
-    of : Option ℕ → Result ℕ Error
-    of (Some ticks) = Ok ticks
-    of None = Err (BadFile Top 0)
+ticks_of ms = ticks_by (cond (is_top ms) (at (codes "ticks") (number 1 100000) ms) None)
 
 -- The cables of a file, or the error of the first invalid one.
 unfoldable pub cables_in : Members → Result (List Cable) Error

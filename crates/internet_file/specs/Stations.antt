@@ -13,6 +13,7 @@ use Rattle.file_entries.specs.Values.{any_address, hardware, list_within, number
 use Rattle.internet_file.specs.declared.cable.Cable.{Cable}
 use Rattle.internet_file.specs.declared.node.Node.{Node}
 use Rattle.internet_file.specs.declared.port.Port.{Port}
+use Rattle.internet_file.specs.declared.port.Seat.{Seat}
 use Rattle.internet_file.specs.declared.router.Router.{Router}
 use Rattle.internet_file.specs.declared.service.Service.{Service}
 use Rattle.at_base.specs.Limits.{max_names, max_ports}
@@ -29,6 +30,13 @@ try_of range d =
 -- A list of at most 16 addresses to try on the cable with this number.
 abbrev pub tries : List Cable → ℕ → Data → Option (List Addr)
 tries cables k d = given (cable_at cables k) (λ cable. given (list_within 0 16 d) (all (try_of cable.range)))
+
+-- The hardware address and the addresses to try in the members of an entry, on a cable with this range.
+abbrev pub seat_in : Span → Members → Option Seat
+seat_in range ms =
+    given (at (codes "hardware") hardware ms) (λ hw.
+    given (at (codes "try") (λ d. given (list_within 0 16 d) (all (try_of range))) ms) (λ addresses.
+    Some (record { hardware = hw; tries = addresses })))
 
 -- The port of a router or a node in the members of an entry.
 abbrev pub port_in : List Cable → Members → Option Port

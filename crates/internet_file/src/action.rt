@@ -1,12 +1,14 @@
 //! The actions of nodes.
 
-ghost use Rattle.std.specs.Prelude.{◌≡◌, Some, codes, IfOk, IsOkUnless};
+ghost use Rattle.std.specs.Prelude.{◌≡◌, IfOk, IsOkUnless, is_some};
+ghost use Rattle.std.specs.Result.{result_ok};
 ghost use Rattle.toml.specs.Data.{as_str};
 ghost use Rattle.toml.specs.View.{table_view};
 ghost use Rattle.at_base.specs.Text.{same_bytes};
 ghost use Rattle.text.specs.Words.{given};
 ghost use Rattle.internet_file.specs.Actions.{action_of, doing, looking_up, sending};
 ghost use Rattle.file_entries.specs.Entries.{at};
+ghost use Rattle.file_entries.specs.Faults.{noted, spot};
 ghost use Rattle.file_entries.specs.Values as spec;
 
 use crate::node::Node;
@@ -14,7 +16,9 @@ use at_base::{Addr, Bytes, Error, Text32};
 use file_entries::bytes::hex;
 use file_entries::entries::Reader;
 use file_entries::fields::{address_at, byte_at, number_at, one_at, short_at};
-use file_entries::key::{get, has_only};
+use file_entries::key::{get, only, table, value_at};
+use file_entries::value::text;
+use file_entries::{Faults, Place, Why, Words};
 use std::alloc::Global;
 use toml::{Table, Value};
 
@@ -59,51 +63,63 @@ pub struct Action {
 }
 
 /// The bytes at the key. Error: `Memory`.
-fn hex_at(alloc: Global, table: &Table, key: &str) -> Result<Option<Bytes>, Error>
-    ensures read { IfOk result (λ x. x ≡ at key.now spec.hex (table_view table.now)) }
+fn hex_at(alloc: Global, table: &Table, key: &str) -> Result<Result<Bytes, Why>, Error>
+    ensures read { IfOk result (λ x. result_ok x ≡ at key.now spec.hex (table_view table.now)) }
     ensures refused { IsOkUnless result Error.Memory }
 {
     match get(table, key) {
         Some(value) => hex(alloc, value),
-        None => Ok(None),
+        None => Ok(Err(Why::Missing)),
     }
 }
 
-/// The datagram in an entry, with these bytes as its data.
-fn send_of(table: &Table, hex: Bytes) -> Option<Do>
-    requires { at (codes "hex") spec.hex (table_view table.now) ≡ Some hex }
-    ensures { result ≡ sending (table_view table.now) }
-{
-    Some(Do::Send {
-        to: address_at(table, "to")?,
-        socket: byte_at(table, "socket")?,
-        source: byte_at(table, "source")?,
-        kind: byte_at(table, "type")?,
-        hex,
-    })
-}
-
 /// The datagram in an entry. Error: `Memory`.
-fn send(alloc: Global, table: &Table) -> Result<Option<Do>, Error>
+#[tactic(auto, using(file_entries::proofs::Notes::noted_again))]
+fn send(
+    alloc: Global,
+    place: &Place,
+    table: &Table,
+    faults: &mut Faults,
+) -> Result<Option<Do>, Error>
     ensures read { IfOk result (λ x. x ≡ sending (table_view table.now)) }
+    ensures told { IfOk result (λ x. faults.new ≡ noted (spot place.now) (is_some x) faults.old) }
     ensures refused { IsOkUnless result Error.Memory }
 {
-    let Some(hex) = hex_at(alloc, table, "hex")? else {
-        return Ok(None);
-    };
-    Ok(send_of(table, hex))
+    let to = faults.take(place, "to", address_at(table, "to"));
+    let socket = faults.take(place, "socket", byte_at(table, "socket"));
+    let source = faults.take(place, "source", byte_at(table, "source"));
+    let kind = faults.take(place, "type", byte_at(table, "type"));
+    let hex = faults.take(place, "hex", hex_at(alloc, table, "hex")?);
+    match (to, socket, source, kind, hex) {
+        (Some(to), Some(socket), Some(source), Some(kind), Some(hex)) => Ok(Some(Do::Send {
+            to,
+            socket,
+            source,
+            kind,
+            hex,
+        })),
+        _ => Ok(None),
+    }
 }
 
 /// The lookup in an entry.
-fn lookup(table: &Table) -> Option<Do>
-    ensures { result ≡ looking_up (table_view table.now) }
+fn lookup(place: &Place, table: &Table, faults: &mut Faults) -> Option<Do>
+    ensures value { result ≡ looking_up (table_view table.now) }
+    ensures told { faults.new ≡ noted (spot place.now) (is_some result) faults.old }
 {
-    Some(Do::Lookup {
-        id: number_at(table, "id", 0, 65535)? as u16,
-        object: short_at(table, "object", 1)?,
-        kind: short_at(table, "type", 1)?,
-        zone: short_at(table, "zone", 0)?,
-    })
+    let id = faults.take(place, "id", number_at(table, "id", 0, 65535));
+    let object = faults.take(place, "object", short_at(table, "object", 1));
+    let kind = faults.take(place, "type", short_at(table, "type", 1));
+    let zone = faults.take(place, "zone", short_at(table, "zone", 0));
+    match (id, object, kind, zone) {
+        (Some(id), Some(object), Some(kind), Some(zone)) => Some(Do::Lookup {
+            id: id as u16,
+            object,
+            kind,
+            zone,
+        }),
+        _ => None,
+    }
 }
 
 fn is_word(word: &[u8], other: &[u8]) -> bool
@@ -113,39 +129,56 @@ fn is_word(word: &[u8], other: &[u8]) -> bool
 }
 
 /// The operation that the word names. Error: `Memory`.
-fn done(alloc: Global, table: &Table, word: &[u8]) -> Result<Option<Do>, Error>
+fn done(
+    alloc: Global,
+    place: &Place,
+    table: &Table,
+    word: &[u8],
+    faults: &mut Faults,
+) -> Result<Option<Do>, Error>
     ensures read { IfOk result (λ x. x ≡ doing (table_view table.now) word.now) }
+    ensures told { IfOk result (λ x. faults.new ≡ noted (spot place.now) (is_some x) faults.old) }
     ensures refused { IsOkUnless result Error.Memory }
 {
     if is_word(word, b"send") {
-        if has_only(
-            &["at", "node", "do", "to", "socket", "source", "type", "hex"],
-            table,
-        ) {
-            return send(alloc, table);
-        }
-        return Ok(None);
+        let named = ["at", "node", "do", "to", "socket", "source", "type", "hex"];
+        let only = only(&named, place, table, faults);
+        let sent = send(alloc, place, table, faults)?;
+        if only { Ok(sent) } else { Ok(None) }
+    } else if is_word(word, b"lookup") {
+        let named = ["at", "node", "do", "id", "object", "type", "zone"];
+        let only = only(&named, place, table, faults);
+        let asked = lookup(place, table, faults);
+        if only { Ok(asked) } else { Ok(None) }
+    } else {
+        let words = Words::Actions;
+        faults.note(&place.at("do"), Why::NoWord { words });
+        Ok(None)
     }
-    if is_word(word, b"lookup")
-        && has_only(&["at", "node", "do", "id", "object", "type", "zone"], table)
-    {
-        return Ok(lookup(table));
-    }
-    Ok(None)
 }
 
 /// The operation in an action's entry. Error: `Memory`.
-fn do_at(alloc: Global, table: &Table, key: &str) -> Result<Option<Do>, Error>
+fn do_at(
+    alloc: Global,
+    place: &Place,
+    table: &Table,
+    key: &str,
+    faults: &mut Faults,
+) -> Result<Option<Do>, Error>
     ensures read { IfOk result (λ x.
         x ≡ given (at key.now as_str (table_view table.now)) (doing (table_view table.now))) }
+    ensures told { IfOk result (λ x. faults.new ≡ noted (spot place.now) (is_some x) faults.old) }
     ensures refused { IsOkUnless result Error.Memory }
 {
-    let Some(value) = get(table, key) else {
+    let Some(value) = value_at(place, table, key, faults) else {
         return Ok(None);
     };
-    match value.as_str() {
-        Some(word) => done(alloc, table, word.as_bytes()),
-        None => Ok(None),
+    match text(value) {
+        Ok(word) => done(alloc, place, table, word, faults),
+        Err(why) => {
+            faults.note(&place.at(key), why);
+            Ok(None)
+        }
     }
 }
 
@@ -164,21 +197,19 @@ impl<'a> Reader for Actions<'a> {
     fn read_one(
         &self,
         alloc: Global,
+        place: &Place,
         _number: usize,
         value: &Value,
+        faults: &mut Faults,
     ) -> Result<Option<Action>, Error> {
-        let Some(table) = value.as_table() else {
+        let Some(table) = table(place, value, faults) else {
             return Ok(None);
         };
-        let Some(at) = number_at(table, "at", 1, self.ticks) else {
-            return Ok(None);
-        };
-        let Some(node) = one_at(table, "node", self.nodes) else {
-            return Ok(None);
-        };
-        match do_at(alloc, table, "do")? {
-            Some(action) => Ok(Some(Action { at, node, action })),
-            None => Ok(None),
+        let at = faults.take(place, "at", number_at(table, "at", 1, self.ticks));
+        let node = faults.take(place, "node", one_at(table, "node", self.nodes));
+        match (at, node, do_at(alloc, place, table, "do", faults)?) {
+            (Some(at), Some(node), Some(action)) => Ok(Some(Action { at, node, action })),
+            _ => Ok(None),
         }
     }
 }

@@ -1,14 +1,13 @@
 //! Frames that are lost.
 
-ghost use Rattle.std.specs.Prelude.{◌≡◌};
-ghost use Rattle.toml.specs.View.{view};
 ghost use Rattle.internet_file.specs.Actions.{loss_of};
 
 use crate::cable::Cable;
 use at_base::Error;
 use file_entries::entries::Reader;
 use file_entries::fields::{number_at, one_at};
-use file_entries::key::entry;
+use file_entries::key::{only, table};
+use file_entries::{Faults, Place};
 use std::alloc::Global;
 use toml::Value;
 
@@ -21,17 +20,6 @@ pub struct Loss {
     pub first: u32,
     /// The last tick, not before the first.
     pub last: u32,
-}
-
-/// The loss in an entry.
-fn read_loss(ticks: u32, cables: &[Cable], value: &Value) -> Option<Loss>
-    ensures { result ≡ loss_of ticks cables.now (view value.now) }
-{
-    let table = entry(&["cable", "first", "last"], value)?;
-    let cable = one_at(table, "cable", cables)?;
-    let first = number_at(table, "first", 1, ticks)?;
-    let last = number_at(table, "last", first, ticks)?;
-    Some(Loss { cable, first, last })
 }
 
 /// Reads losses of these cables, in a file with this many ticks.
@@ -49,9 +37,23 @@ impl<'a> Reader for Losses<'a> {
     fn read_one(
         &self,
         _alloc: Global,
+        place: &Place,
         _number: usize,
         value: &Value,
+        faults: &mut Faults,
     ) -> Result<Option<Loss>, Error> {
-        Ok(read_loss(self.ticks, self.cables, value))
+        let Some(table) = table(place, value, faults) else {
+            return Ok(None);
+        };
+        let only = only(&["cable", "first", "last"], place, table, faults);
+        let cable = faults.take(place, "cable", one_at(table, "cable", self.cables));
+        let first = faults.take(place, "first", number_at(table, "first", 1, self.ticks));
+        // Where the first tick is invalid, the last may be any.
+        let low = first.unwrap_or(1);
+        let last = faults.take(place, "last", number_at(table, "last", low, self.ticks));
+        match (only, cable, first, last) {
+            (true, Some(cable), Some(first), Some(last)) => Ok(Some(Loss { cable, first, last })),
+            _ => Ok(None),
+        }
     }
 }

@@ -8,7 +8,8 @@ use crate::port::port_at;
 use at_base::{Addr, Error, Hw, Listed, Name};
 use file_entries::entries::Reader;
 use file_entries::fields::zone_at;
-use file_entries::key::entry;
+use file_entries::key::{only, table};
+use file_entries::{Faults, Place};
 use nbp::Names;
 use std::alloc::Global;
 use toml::Value;
@@ -42,27 +43,41 @@ impl<'a> Reader for Nodes<'a> {
     fn read_one(
         &self,
         alloc: Global,
+        place: &Place,
         _number: usize,
         value: &Value,
+        faults: &mut Faults,
     ) -> Result<Option<Node>, Error> {
-        let Some(table) = entry(&["cable", "hardware", "try", "zone", "name"], value) else {
+        let Some(table) = table(place, value, faults) else {
             return Ok(None);
         };
-        let Some(zone) = zone_at(table, "zone") else {
-            return Ok(None);
-        };
-        let Some(port) = port_at(alloc, table, self.cables)? else {
-            return Ok(None);
-        };
-        let Some(name) = names_at(alloc, table)? else {
+        let named = ["cable", "hardware", "try", "zone", "name"];
+        let only = only(&named, place, table, faults);
+        let zone = faults.take(place, "zone", zone_at(table, "zone"));
+        let port = port_at(alloc, place, table, self.cables, faults)?;
+        let name = names_at(alloc, place, table, faults)?;
+        match (only, zone, port, name) {
+            (true, Some(zone), Some(port), Some(name)) => Ok(Some(Node {
+                cable: port.cable,
+                hardware: port.hardware,
+                tries: port.tries,
+                zone,
+                name,
+            })),
+            _ => Ok(None),
+        }
+    }
+
+    fn stand_in(&self, alloc: Global) -> Result<Option<Node>, Error> {
+        let Ok(zone) = Name::new(b"-") else {
             return Ok(None);
         };
         Ok(Some(Node {
-            cable: port.cable,
-            hardware: port.hardware,
-            tries: port.tries,
+            cable: 1,
+            hardware: Hw([0; 6]),
+            tries: Listed::empty(alloc),
             zone,
-            name,
+            name: Names::new(alloc)?,
         }))
     }
 }

@@ -1,20 +1,27 @@
 //! Ports: routers and nodes on cables.
 
-ghost use Rattle.std.specs.Prelude.{◌≡◌, ◌≤◌, IfOk, IsOkUnless};
+ghost use Rattle.std.specs.Prelude.{◌≡◌, ◌≤◌, Some, IfOk, IsOkUnless, is_some, length, option_map};
+ghost use Rattle.std.specs.Result.{result_ok};
 ghost use Rattle.toml.specs.View.{table_view, view};
-ghost use Rattle.file_entries.specs.Entries.{at};
+ghost use Rattle.text.specs.Words.{given};
+ghost use Rattle.file_entries.specs.Entries.{all, at};
+ghost use Rattle.file_entries.specs.Faults.{noted, spot};
+ghost use Rattle.file_entries.specs.Values.{list_within};
 ghost use Rattle.internet_file.specs.Stations as spec;
-ghost use Rattle.internet_file.specs.Stations.{port_in, port_of};
-ghost use Rattle.internet_file.specs.Stations.{try_of};
+ghost use Rattle.internet_file.specs.Stations.{cable_at, port_in, port_of, try_of};
 
-use crate::cable::Cable;
+use crate::cable::{Cable, any_range};
 use at_base::{Addr, Error, Hw, Listed, Range};
-use file_entries::entries::{Reader, all};
+use file_entries::entries::{Reader, all_values};
 use file_entries::fields::{hardware_at, one_at};
-use file_entries::key::{entry, get};
-use file_entries::value::{any_address, list_within};
+use file_entries::key::{list_here, only, table, value_at};
+use file_entries::value::any_address;
+use file_entries::{Faults, Place, Why};
 use std::alloc::Global;
 use toml::{Table, Value};
+
+/// The greatest number of addresses that a station tries first.
+const MAX_TRIES: usize = 16;
 
 /// A port of a router, or that of a node.
 #[derive(Debug, Drop)]
@@ -29,14 +36,14 @@ pub struct Port {
 
 /// An address that a station may try on a cable with this range: node 1 to 253 of one of its
 /// networks.
-fn try_address(range: &Range, value: &Value) -> Option<Addr>
-    ensures { result ≡ spec.try_of range.now (view value.now) }
+fn try_address(range: &Range, value: &Value) -> Result<Addr, Why>
+    ensures { result_ok result ≡ spec.try_of range.now (view value.now) }
 {
     let address = any_address(value)?;
     if range.holds(address.net) && 1 <= address.node && address.node <= 253 {
-        Some(address)
+        Ok(address)
     } else {
-        None
+        Err(Why::Untried)
     }
 }
 
@@ -54,57 +61,107 @@ impl Reader for Tries {
     fn read_one(
         &self,
         _alloc: Global,
+        place: &Place,
         _number: usize,
         value: &Value,
+        faults: &mut Faults,
     ) -> Result<Option<Addr>, Error> {
-        Ok(try_address(&self.range, value))
+        Ok(faults.take_here(place, try_address(&self.range, value)))
     }
 }
 
-/// The addresses at the key, to try on a cable. Error: `Memory`.
+/// The addresses at the key, to try on a cable with this range. Error: `Memory`.
 fn tries_at(
     alloc: Global,
+    place: &Place,
     table: &Table,
     key: &str,
-    cables: &[Cable],
-    cable: u16,
+    range: &Range,
+    faults: &mut Faults,
 ) -> Result<Option<Listed<Addr>>, Error>
-    requires { 1 ≤ cable }
-    ensures read { IfOk result (λ x.
-        x ≡ at key.now (spec.tries cables.now cable) (table_view table.now)) }
+    ensures read { IfOk result (λ x. x ≡ at key.now
+        (λ d. given (list_within 0 16 d) (all (try_of range.now))) (table_view table.now)) }
+    ensures told { IfOk result (λ x. faults.new ≡ noted (spot place.now) (is_some x) faults.old) }
     ensures refused { IsOkUnless result Error.Memory }
 {
-    let Some(value) = get(table, key) else {
+    let Some(value) = value_at(place, table, key, faults) else {
         return Ok(None);
     };
-    let Some(cable) = cables.get(cable as usize - 1) else {
-        return Ok(None);
-    };
-    let Some(values) = list_within(0, 16, value) else {
-        return Ok(None);
-    };
-    all(alloc, &Tries { range: cable.range }, values)
+    let place = place.at(key);
+    match list_here(&place, 0, MAX_TRIES, value, faults) {
+        Some(values) => all_values(alloc, &Tries { range: *range }, &place, values, faults),
+        None => Ok(None),
+    }
+}
+
+/// What a station has on its cable.
+#[derive(Drop)]
+struct Seat {
+    hardware: Hw,
+    tries: Listed<Addr>,
+}
+
+/// The hardware address in a table and the addresses to try, on a cable with this range. Error:
+/// `Memory`.
+fn seat_at(
+    alloc: Global,
+    place: &Place,
+    table: &Table,
+    range: &Range,
+    faults: &mut Faults,
+) -> Result<Option<Seat>, Error>
+    ensures read { IfOk result (λ x. x ≡ spec.seat_in range.now (table_view table.now)) }
+    ensures told { IfOk result (λ x. faults.new ≡ noted (spot place.now) (is_some x) faults.old) }
+    ensures refused { IsOkUnless result Error.Memory }
+{
+    let hardware = faults.take(place, "hardware", hardware_at(table, "hardware"));
+    let tries = tries_at(alloc, place, table, "try", range, faults)?;
+    match (hardware, tries) {
+        (Some(hardware), Some(tries)) => Ok(Some(Seat { hardware, tries })),
+        _ => Ok(None),
+    }
+}
+
+/// The range of the cable with this number, from 1.
+fn range_of(cables: &[Cable], number: u16) -> Range
+    requires low { 1 ≤ number }
+    requires high { number ≤ length cables.now }
+    ensures { option_map (λ c. c.range) (cable_at cables.now number) ≡ Some result }
+{
+    cables[number as usize - 1].range
 }
 
 /// The port in a table with its cable, its hardware address and the addresses to try. Error:
 /// `Memory`.
-pub(crate) fn port_at(alloc: Global, table: &Table, cables: &[Cable]) -> Result<Option<Port>, Error>
+pub(crate) fn port_at(
+    alloc: Global,
+    place: &Place,
+    table: &Table,
+    cables: &[Cable],
+    faults: &mut Faults,
+) -> Result<Option<Port>, Error>
     ensures read { IfOk result (λ x. x ≡ port_in cables.now (table_view table.now)) }
+    ensures told { IfOk result (λ x. faults.new ≡ noted (spot place.now) (is_some x) faults.old) }
     ensures refused { IsOkUnless result Error.Memory }
 {
-    let Some(cable) = one_at(table, "cable", cables) else {
-        return Ok(None);
-    };
-    let Some(hardware) = hardware_at(table, "hardware") else {
-        return Ok(None);
-    };
-    match tries_at(alloc, table, "try", cables, cable)? {
-        Some(tries) => Ok(Some(Port {
-            cable,
-            hardware,
-            tries,
-        })),
-        None => Ok(None),
+    match one_at(table, "cable", cables) {
+        Ok(cable) => {
+            let range = range_of(cables, cable);
+            match seat_at(alloc, place, table, &range, faults)? {
+                Some(seat) => Ok(Some(Port {
+                    cable,
+                    hardware: seat.hardware,
+                    tries: seat.tries,
+                })),
+                None => Ok(None),
+            }
+        }
+        Err(why) => {
+            faults.note(&place.at("cable"), why);
+            // The other keys are read for further faults; any network may be the cable's.
+            let _seat = seat_at(alloc, place, table, &any_range(), faults)?;
+            Ok(None)
+        }
     }
 }
 
@@ -122,12 +179,16 @@ impl<'a> Reader for Ports<'a> {
     fn read_one(
         &self,
         alloc: Global,
+        place: &Place,
         _number: usize,
         value: &Value,
+        faults: &mut Faults,
     ) -> Result<Option<Port>, Error> {
-        let Some(table) = entry(&["cable", "hardware", "try"], value) else {
+        let Some(table) = table(place, value, faults) else {
             return Ok(None);
         };
-        port_at(alloc, table, self.cables)
+        let only = only(&["cable", "hardware", "try"], place, table, faults);
+        let port = port_at(alloc, place, table, self.cables, faults)?;
+        if only { Ok(port) } else { Ok(None) }
     }
 }

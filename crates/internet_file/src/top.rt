@@ -1,39 +1,45 @@
 //! The top level of a file.
 
-ghost use Rattle.std.specs.Prelude.{◌≡◌, Ok, Err};
+ghost use Rattle.std.specs.Prelude.{◌≡◌, ◌&&◌, is_some};
 ghost use Rattle.toml.specs.View.{table_view};
 ghost use Rattle.at_base.specs.declared.error.Part.TheVariants.{Top};
+ghost use Rattle.file_entries.specs.Faults.{noted, spot};
 ghost use Rattle.internet_file.specs.Files as spec;
-ghost use Rattle.internet_file.specs.Files.{ticks_of};
+ghost use Rattle.internet_file.specs.Files.{ticks_by, ticks_of};
 
-use at_base::{Error, Part};
+use at_base::Part;
 use file_entries::fields::number_at;
-use file_entries::key::{has_only, is_listed};
+use file_entries::key::{is_listed, only};
+use file_entries::{Faults, Place};
 use toml::Table;
 
-/// Whether the top level has only the keys of a file, and its tables are lists.
-fn is_top(table: &Table) -> bool
-    ensures { result ≡ spec.is_top (table_view table.now) }
+/// The greatest number of ticks of a file.
+pub(crate) const MAX_TICKS: u32 = 100_000;
+
+/// Whether the tables of a file are lists.
+#[tactic(auto, using(file_entries::proofs::Notes::noted_both))]
+fn are_listed(place: &Place, table: &Table, faults: &mut Faults) -> bool
+    ensures value { result ≡ spec.are_listed (table_view table.now) }
+    ensures told { faults.new ≡ noted (spot place.now) result faults.old }
 {
-    has_only(
-        &["ticks", "cable", "router", "node", "lose", "action"],
-        table,
-    ) && is_listed(table, "cable")
-        && is_listed(table, "router")
-        && is_listed(table, "node")
-        && is_listed(table, "lose")
-        && is_listed(table, "action")
+    let cable = is_listed(place, table, "cable", faults);
+    let router = is_listed(place, table, "router", faults);
+    let node = is_listed(place, table, "node", faults);
+    let lose = is_listed(place, table, "lose", faults);
+    let action = is_listed(place, table, "action", faults);
+    cable && router && node && lose && action
 }
 
-/// The number of ticks in the file. Error: `BadFile(Top, 0)` if the top level is invalid.
-#[tactic(auto, unfolding(crate::specs::Files::ticks_of))]
-pub(crate) fn ticks(table: &Table) -> Result<u32, Error>
-    ensures { result ≡ ticks_of (table_view table.now) }
+#[tactic(auto, unfolding(crate::specs::Files::ticks_of), using(file_entries::proofs::Notes::noted_both))]
+/// The number of ticks in the file, or `None` if the top level is invalid.
+pub(crate) fn ticks(table: &Table, faults: &mut Faults) -> Option<u32>
+    ensures value { ticks_by result ≡ ticks_of (table_view table.now) }
+    ensures told { faults.new ≡ noted (Top, 0) (is_some result) faults.old }
 {
-    if is_top(table) {
-        if let Some(ticks) = number_at(table, "ticks", 1, 100_000) {
-            return Ok(ticks);
-        }
-    }
-    Err(Error::BadFile(Part::Top, 0))
+    let place = Place::of(Part::Top, 0);
+    let named = ["ticks", "cable", "router", "node", "lose", "action"];
+    let only = only(&named, &place, table, faults);
+    let listed = are_listed(&place, table, faults);
+    let ticks = faults.take(&place, "ticks", number_at(table, "ticks", 1, MAX_TICKS));
+    if only && listed { ticks } else { None }
 }

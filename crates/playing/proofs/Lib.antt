@@ -1,3 +1,2 @@
 pub mod Counted
-pub mod Ends
 pub mod Faults

@@ -5,7 +5,6 @@ use Rattle.captures.specs.declared.head.Extent.{Extent}
 use Rattle.internet_file.specs.declared.cable.Cable.{Cable}
 use Rattle.live_cables.specs.Living.{happened}
 use Rattle.planned_stations.specs.Seating.{plan_seats}
-use Rattle.playing.specs.Lives.{Lives, counts}
 use Rattle.world.specs.Worlds.{Worldly}
 
 -- The range of a cable.
@@ -13,9 +12,5 @@ abbrev pub extent_of : Cable → Extent
 extent_of c = record { start = c.range.start; end = c.range.end }
 
 -- The capture of a world whose ticks added so many entries.
-abbrev pub history_capture : Worldly → List ℕ → List ℕ
-history_capture w ns = play_capture (map extent_of w.plan.cables) (plan_seats w.plan) ns (happened w.wires)
-
--- The capture of a world with this history.
-abbrev pub world_capture : (w : Worldly) → Lives w → List ℕ
-world_capture w lived = history_capture w (counts w lived)
+abbrev pub world_capture : Worldly → List ℕ → List ℕ
+world_capture w ns = play_capture (map extent_of w.plan.cables) (plan_seats w.plan) ns (happened w.wires)

@@ -1,10 +1,11 @@
--- The result of a play: the printed lines, whether the image passes the audit, and the image.
-use Rattle.std.specs.Prelude.{◌≡◌, ℕ, zero, suc, ◌+◌, Bool, List, [], ◌∷◌, ◌++◌, Option, Some, None, length}
-use Rattle.audit.specs.Verdicts.{Judges, is_yes, verdict_line}
+-- What a play is: the world at its end, the image of its tables, the verdict on it, and the printed lines.
+use Rattle.std.specs.Prelude.{◌≡◌, ℕ, zero, suc, ◌+◌, List, [], ◌∷◌, ◌++◌, Option, Some, None, length}
+use Rattle.audit.specs.Verdicts.{Judges, verdict_line}
 use Rattle.audit.specs.declared.verdict.Verdict.{Verdict}
-use Rattle.internet_file.specs.Files.{IsFile}
+use Rattle.internet_file.specs.Files.{Planned}
 use Rattle.playing.specs.Lines.{received_lines, refused_lines}
-use Rattle.playing.specs.Lives.{Lives}
+use Rattle.playing.specs.Lives.{HasLived}
+use Rattle.playing.specs.declared.playing.Played.{Played}
 use Rattle.table_image.specs.Internet.{Internet}
 use Rattle.table_image.specs.declared.version.Version.{Version}
 use Rattle.world.specs.Frozen.{frozen, frozen_as}
@@ -26,17 +27,13 @@ abbrev pub frozen_for : Option Version → Worldly → Internet
 frozen_for None w = frozen w
 frozen_for (Some version) w = frozen_as version w
 
--- The text is an internet file whose plan was carried out to its last tick, with these printed lines, this result of
--- the audit, and this image of the tables, in the version that is asked for if one is.
-pub record IsPlay (version : Option Version) (text : List ℕ) (lines : List ℕ) (yes : Bool) (image : Internet) : Type 0 where
-  pub world : Worldly
-  pub file : IsFile text world.plan
-  pub lived : Lives world
-  pub keeps : IsWorld world
-  pub whole : world.now ≡ world.plan.ticks
-  pub going : world.stopped ≡ None
-  pub frozen : image ≡ frozen_for version world
-  pub verdict : Verdict
-  pub judged : Judges image verdict
-  pub answer : yes ≡ is_yes verdict
-  pub printed : lines ≡ play_lines world verdict
+-- The plan was carried out to its last tick: this is the world then, with the number of entries that each tick added, the
+-- image of its tables, in the version that is asked for if one is, and the verdict on it.
+pub record IsPlay (version : Option Version) (plan : Planned) (p : Played) : Type 0 where
+  pub of : p.world.plan ≡ plan
+  pub lived : HasLived p.world p.counts.items
+  pub keeps : IsWorld p.world
+  pub whole : p.world.now ≡ plan.ticks
+  pub going : p.world.stopped ≡ None
+  pub frozen : p.image ≡ frozen_for version p.world
+  pub judged : Judges p.image p.verdict

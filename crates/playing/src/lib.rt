@@ -1,8 +1,8 @@
-//! A play: from the text of an internet file to its printed lines and the image.
+//! A play: from the plan of an internet file to the world after its last tick, the image of the tables
+//! there and the verdict on it; its lines, and its capture.
 #![tactic(auto)]
 
-mod ending;
-mod judging;
+mod capturing;
 mod playing;
 mod printing;
 mod progress;
@@ -11,8 +11,10 @@ mod received;
 mod refused;
 mod ticking;
 
-pub use judging::judge;
-pub use playing::{Played, play_and_capture, play_text};
+pub use capturing::capture_play;
+pub use playing::{Played, play};
+pub use printing::lines_of;
 pub use progress::{Progress, Silent};
+pub use reading::read_plan;
 pub use received::put_received;
 pub use refused::put_refused;

@@ -3,7 +3,7 @@
 use at_base::Error;
 use case_words::{Answer, Stop, Words, put_text};
 use clap::error::ErrorKind;
-use command_line::{Job, Source, read_arguments};
+use command_line::{Job, Request, Source, read_arguments};
 use std::alloc::{AllocError, Global};
 
 fn put_source(text: &mut String, source: Source<'_>) -> Result<(), AllocError> {
@@ -64,6 +64,15 @@ fn put_job(text: &mut String, job: Job<'_>) -> Result<(), AllocError> {
             put_word(text, "ways to", to)?;
         }
     }
+    Ok(())
+}
+
+fn put_request(text: &mut String, request: &Request<'_>) -> Result<(), AllocError> {
+    put_job(text, request.job)?;
+    put_word(text, "explain", request.explain)?;
+    if request.quiet {
+        write!(text, " quiet")?;
+    }
     writeln!(text)
 }
 
@@ -84,7 +93,7 @@ fn list<'a>(alloc: Global, mut words: Words<'a>) -> Result<Vec<&'a str>, Stop> {
 pub(crate) fn answer(alloc: Global, words: Words<'_>, text: &mut String) -> Answer {
     let list = list(alloc, words)?;
     match read_arguments(alloc, list.as_slice()) {
-        Ok(job) => put_job(text, job)?,
+        Ok(request) => put_request(text, &request)?,
         Err(error) => match error.kind() {
             ErrorKind::OutOfMemory => return Err(Error::Memory.into()),
             kind => writeln!(text, "{kind:?}")?,

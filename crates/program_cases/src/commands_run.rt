@@ -3,10 +3,11 @@
 use at_base::Error;
 use case_words::{Answer, Stop, Words, put_line};
 use command_line::status;
-use commands::{Input, audit_file, play_bytes, run_frozen};
-use playing::{Silent, play_text};
+use commands::{answer_of, audit_file, play_bytes, run_frozen};
+use frozen_trace::Refusals;
+use playing::{Played, Silent, lines_of, play as play_plan, read_plan};
 use std::alloc::{AllocError, Global};
-use table_image::Version;
+use table_image::{Version, write};
 use text::Output;
 
 /// Room for the output of a command in a case.
@@ -30,11 +31,19 @@ fn put_status(text: &mut String, answer: &Result<bool, Error>) -> Answer {
     Ok(())
 }
 
+/// The play of a file.
+fn played(alloc: Global, bytes: &[u8], version: Option<Version>) -> Result<Played, Stop> {
+    match read_plan(alloc, bytes) {
+        Ok(plan) => Ok(play_plan(alloc, plan, &mut Silent, version)?),
+        Err(refused) => Err(refused.error.into()),
+    }
+}
+
 /// Appends the lines of the play of a file, and returns the resulting image.
 pub(crate) fn play(alloc: Global, bytes: &[u8], text: &mut String) -> Result<Vec<u8>, Stop> {
-    let played = play_text(alloc, bytes, &mut Silent, None)?;
-    put_ascii(text, played.lines.as_slice())?;
-    Ok(played.image)
+    let played = played(alloc, bytes, None)?;
+    put_ascii(text, lines_of(alloc, &played)?.as_slice())?;
+    Ok(write(alloc, &played.image)?.into_vec())
 }
 
 /// Appends the image that results from the play of a file, in a version if one is asked for.
@@ -44,16 +53,16 @@ pub(crate) fn frozen(
     version: Option<Version>,
     text: &mut String,
 ) -> Answer {
-    let played = play_text(alloc, bytes, &mut Silent, version)?;
-    put_line(text, played.image.as_slice())?;
+    let played = played(alloc, bytes, version)?;
+    put_line(text, write(alloc, &played.image)?.as_slice())?;
     Ok(())
 }
 
 /// Appends the output of `atalk audit` for the image, and its status.
 pub(crate) fn audit(alloc: Global, image: &[u8], text: &mut String) -> Answer {
-    let mut input = Input::new(image);
+    let mut input = image;
     let mut output = Output::new(alloc, Vec::with_capacity(alloc, ROOM)?);
-    let answer = audit_file(alloc, &mut input, &mut output);
+    let answer = answer_of(&audit_file(alloc, &mut input, &mut output));
     if answer == Err(Error::Memory) {
         return Err(Error::Memory.into());
     }
@@ -67,10 +76,16 @@ fn traced(
     image: &[u8],
     script: &[u8],
 ) -> Result<(Vec<u8>, Result<bool, Error>), Stop> {
-    let mut image = Input::new(image);
-    let mut script = Input::new(script);
+    let mut image = image;
+    let mut script = script;
     let mut output = Output::new(alloc, Vec::with_capacity(alloc, ROOM)?);
-    let answer = run_frozen(alloc, &mut image, &mut script, &mut output);
+    let answer = answer_of(&run_frozen(
+        alloc,
+        &mut image,
+        &mut script,
+        &mut output,
+        &mut Refusals::new(alloc),
+    ));
     if answer == Err(Error::Memory) {
         return Err(Error::Memory.into());
     }
@@ -135,17 +150,17 @@ pub(crate) fn play_files(
     version: Option<Version>,
     text: &mut String,
 ) -> Answer {
-    let mut input = Input::new(bytes);
+    let mut input = bytes;
     let mut output = Output::new(alloc, Vec::with_capacity(alloc, ROOM)?);
     let mut image = Output::new(alloc, Vec::with_capacity(alloc, ROOM)?);
-    let answer = play_bytes(
+    let answer = answer_of(&play_bytes(
         alloc,
         &mut input,
         &mut output,
         &mut image,
         &mut Silent,
         version,
-    );
+    ));
     if answer == Err(Error::Memory) {
         return Err(Error::Memory.into());
     }

@@ -1,13 +1,21 @@
 //! Internet files and their plans.
 
-use at_base::{Addr, Name};
+use at_base::{Addr, Error, Name};
 use case_words::{Answer, put_hw, put_line, put_text};
 use internet_file::{Action, Cable, Do, Node, Plan, Port, Router, read};
 use std::alloc::{AllocError, Global};
 
+/// The plan of the bytes.
+pub(crate) fn plan_of(alloc: Global, bytes: &[u8]) -> Result<Plan, Error> {
+    match read(alloc, bytes) {
+        Ok(plan) => Ok(plan),
+        Err(refused) => Err(refused.error),
+    }
+}
+
 /// Appends whether the bytes are an internet file, or their error.
 pub(crate) fn read_it(alloc: Global, bytes: &[u8], text: &mut String) -> Answer {
-    let _plan = read(alloc, bytes)?;
+    let _plan = plan_of(alloc, bytes)?;
     writeln!(text, "a plan")?;
     Ok(())
 }
@@ -137,7 +145,7 @@ fn put_events(text: &mut String, plan: &Plan) -> Result<(), AllocError> {
 
 /// Appends the plan of the bytes, a line for each part of it.
 pub(crate) fn plan(alloc: Global, bytes: &[u8], text: &mut String) -> Answer {
-    let plan = read(alloc, bytes)?;
+    let plan = plan_of(alloc, bytes)?;
     let ticks = plan.ticks();
     writeln!(text, "ticks {ticks}")?;
     put_parts(text, &plan)?;

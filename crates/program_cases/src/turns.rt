@@ -3,7 +3,8 @@
 use crate::mishaps::{Kept, Mishap, Pieces, Turn};
 use at_base::Error;
 use case_words::{Answer, Stop, Words};
-use commands::{Input, audit_file, play_bytes, run_frozen};
+use commands::{answer_of, audit_file, play_bytes, run_frozen};
+use frozen_trace::Refusals;
 use playing::Silent;
 use std::alloc::Global;
 use text::Output;
@@ -61,13 +62,13 @@ impl Course {
         }
     }
 
-    fn reader<'a>(&self, bytes: &'a [u8], stream: Stream) -> Input<Pieces<'a>> {
-        Input::new(Pieces {
+    fn reader<'a>(&self, bytes: &'a [u8], stream: Stream) -> Pieces<'a> {
+        Pieces {
             left: bytes,
             piece: self.piece,
             turn: self.turn_of(stream),
             calls: 0,
-        })
+        }
     }
 
     fn writer(&self, alloc: Global, stream: Stream) -> Result<Output<Kept>, Stop> {
@@ -88,10 +89,10 @@ impl Course {
     fn audit(&self, alloc: Global, image: &[u8]) -> Result<Ran, Stop> {
         let mut input = self.reader(image, Stream::Input);
         let mut output = self.writer(alloc, Stream::Lines)?;
-        let answer = audit_file(alloc, &mut input, &mut output);
+        let answer = answer_of(&audit_file(alloc, &mut input, &mut output));
         Ok(Ran {
             answer,
-            calls: self.calls(input.reader.calls, 0, output.writer.calls, 0),
+            calls: self.calls(input.calls, 0, output.writer.calls, 0),
             lines: output.writer.bytes,
             image: Vec::new(alloc),
         })
@@ -101,15 +102,16 @@ impl Course {
         let mut input = self.reader(image, Stream::Input);
         let mut script = self.reader(script, Stream::Script);
         let mut output = self.writer(alloc, Stream::Lines)?;
-        let answer = run_frozen(alloc, &mut input, &mut script, &mut output);
+        let answer = answer_of(&run_frozen(
+            alloc,
+            &mut input,
+            &mut script,
+            &mut output,
+            &mut Refusals::new(alloc),
+        ));
         Ok(Ran {
             answer,
-            calls: self.calls(
-                input.reader.calls,
-                script.reader.calls,
-                output.writer.calls,
-                0,
-            ),
+            calls: self.calls(input.calls, script.calls, output.writer.calls, 0),
             lines: output.writer.bytes,
             image: Vec::new(alloc),
         })
@@ -119,22 +121,17 @@ impl Course {
         let mut input = self.reader(text, Stream::Input);
         let mut output = self.writer(alloc, Stream::Lines)?;
         let mut image = self.writer(alloc, Stream::Image)?;
-        let answer = play_bytes(
+        let answer = answer_of(&play_bytes(
             alloc,
             &mut input,
             &mut output,
             &mut image,
             &mut Silent,
             None,
-        );
+        ));
         Ok(Ran {
             answer,
-            calls: self.calls(
-                input.reader.calls,
-                0,
-                output.writer.calls,
-                image.writer.calls,
-            ),
+            calls: self.calls(input.calls, 0, output.writer.calls, image.writer.calls),
             lines: output.writer.bytes,
             image: image.writer.bytes,
         })

@@ -1,11 +1,11 @@
 //! Worlds, tick by tick.
 
+use crate::plans::plan_of;
 use at_base::{Addr, Error};
 use cable_model::{Entry, Kind};
 use case_words::{Answer, Stop, Words, put_hw, put_line, put_text};
 use dump_lines::number_of;
 use end_node::{Datagram, EndNode};
-use internet_file::read;
 use rtmp::RouteTable;
 use std::alloc::{AllocError, Global};
 use table_image::{Version, write};
@@ -22,7 +22,7 @@ pub(crate) struct Begun<T: RouteTable> {
 }
 
 fn of_file<T: RouteTable>(alloc: Global, bytes: &[u8]) -> Result<World<T>, Stop> {
-    Ok(World::new(alloc, read(alloc, bytes)?)?)
+    Ok(World::new(alloc, plan_of(alloc, bytes)?)?)
 }
 
 impl<T: RouteTable> Begun<T> {

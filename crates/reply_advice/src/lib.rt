@@ -1,18 +1,15 @@
-//! Explains to a person at a terminal what the replies say that nodes received: names that were
-//! found, stations that answer an echo, and zone lists. It reads the lines that a play or a trace
-//! printed, and promises only to return.
+//! Explains to a person at a terminal what the replies say that stations received: names that were
+//! found, stations that answer an echo, and zone lists. It looks through a run over frozen tables or
+//! the world of a play, and promises only to return.
 #![tactic(auto)]
 
 mod deliveries;
-mod event;
-mod line;
-mod pending;
+mod frames;
+mod play;
 mod replies;
 mod reply;
+mod run;
 mod said;
 mod sentence;
-#[cfg(test)]
-mod tests;
-mod words;
 
 pub use replies::Replies;

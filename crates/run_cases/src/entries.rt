@@ -4,9 +4,10 @@ use at_base::{Addr, Hw};
 use cable_model::{DropCause, Entry, How, Kind};
 use case_words::{Answer, Stop, Words, put_hw};
 use frozen::Frozen;
+use image_feed::read;
 use rtmp::RouteTable;
 use std::alloc::{AllocError, Global};
-use table_image::{Image, read};
+use table_image::Image;
 use text::{put_address, put_decimal};
 use trace_lines::Lines;
 

@@ -18,7 +18,7 @@ pub(crate) fn started<T: RouteTable>(
     mut words: Words<'_>,
 ) -> Result<Frozen<T>, Stop> {
     let limit = words.named("limit")?;
-    let image = table_image::read(alloc, bytes)?;
+    let image = image_feed::read(alloc, bytes)?;
     Ok(Frozen::start(alloc, image, limit)?)
 }
 

@@ -1,8 +1,9 @@
 -- If each line that isn't skipped has a valid step, no line is bad.
 use Rattle.std.proofs.Common.{◌≡◌, ℕ, ◌<◌, zero, suc, Bool, true, false, not, List, [], ◌∷◌, Option, Some, None, filter}
-use Rattle.std.proofs.Common.{get_or, length, map, refl, arith}
+use Rattle.std.proofs.Common.{get_or, length, map, refl, sym, ◌∙◌, arith}
+use Rattle.std.proofs.lemmas.List.Quantifiers.{position-Some}
 use Rattle.script.specs.Lines.{is_skipped, step}
-use Rattle.script.specs.Scripts.{is_bad}
+use Rattle.script.specs.Scripts.{IsBadAt, IsScript, is_bad, lines}
 use Rattle.script.specs.declared.step.Step.{Step}
 
 -- The lines that aren't skipped.
@@ -26,3 +27,10 @@ none_bad [] steps k all inside = absurd (omega (arith, inside))
 none_bad (l ∷ ls) steps zero all inside = (one l ls steps (is_skipped l) (step l) refl refl all).0
 none_bad (l ∷ ls) steps (suc k) all inside =
     let rest = (one l ls steps (is_skipped l) (step l) refl refl all).1 in none_bad ls rest.0 k rest.1 (omega (arith, inside))
+
+-- A script has no bad line.
+pub no_bad_line : (text : List ℕ) (steps : List Step) (n : ℕ) → IsScript text steps → IsBadAt text n → ⊥
+no_bad_line text steps n all bad =
+    let first = position-Some is_bad (lines text) bad.0 [] bad.1 in
+    let odd : true ≡ false = sym first.1 ∙ none_bad (lines text) steps bad.0 all first.0 in
+    absurd cc

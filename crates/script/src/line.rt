@@ -4,6 +4,7 @@ ghost use Rattle.std.specs.Prelude.{◌≡◌, IfOk, IsOkUnless, IsSome, OnErr};
 ghost use Rattle.at_base.specs.Text.{same_bytes};
 ghost use Rattle.script.specs.Lines as spec;
 ghost use Rattle.script.specs.Lines.{draining, taking};
+ghost use Rattle.script.specs.Feeds as feeds_spec;
 
 use crate::request::request;
 use crate::send::send;
@@ -15,14 +16,38 @@ use std::alloc::Global;
 use text::address;
 use text::number::number;
 
-/// Whether the line is skipped: it is empty or begins with `#`.
+/// Whether the line is a comment: it begins with `#`.
+pub(crate) fn is_comment(line: &[u8]) -> bool
+    ensures { result ≡ feeds_spec.is_comment line.now }
+{
+    match line {
+        [] => false,
+        [first, ..] => *first == b'#',
+    }
+}
+
+/// Whether the line is skipped: it is empty or a comment.
 pub(crate) fn is_skipped(line: &[u8]) -> bool
     ensures { result ≡ spec.is_skipped line.now }
 {
-    match line {
-        [] => true,
-        [first, ..] => *first == b'#',
-    }
+    line.is_empty() || is_comment(line)
+}
+
+/// Whether one of the texts begins with the other.
+fn agree(a: &[u8], b: &[u8]) -> bool
+    ensures { result ≡ feeds_spec.agree a.now b.now }
+{
+    a.starts_with(b) || b.starts_with(a)
+}
+
+/// Whether a line that begins so may have a step: its first word is a command, or may become one.
+pub(crate) fn may_tell(line: &[u8]) -> bool
+    ensures { result ≡ feeds_spec.may_tell line.now }
+{
+    agree(line, b"send ")
+        || agree(line, b"request ")
+        || agree(line, b"take ")
+        || agree(line, b"drain ")
 }
 
 fn is_word(word: &[u8], other: &[u8]) -> bool

@@ -3,11 +3,10 @@
 ghost use Rattle.std.specs.Prelude.{◌≡◌, ◌⊎◌, ℕ, IfErr, IfOk};
 ghost use Rattle.script.specs.Scripts.{IsBadAt, IsScript, ReachesStep};
 
-use crate::line::{is_skipped, step};
+use crate::reader::Reader;
 use crate::step::Step;
 use at_base::Error;
 use std::alloc::Global;
-use text::cut::cut;
 
 /// Reads a script. Each line has one step. A line ends with a line feed, which the last line may
 /// lack. Empty lines and lines that begin with `#` are skipped.
@@ -33,19 +32,8 @@ pub fn read(alloc: Global, text: &[u8]) -> Result<Vec<Step>, Error>
     // Only a step needs memory, and it is read only where no line before it is bad.
     ensures needed { result ≡ Err Error.Memory → ReachesStep text.now }
 {
-    let mut steps = Vec::new(alloc);
-    let mut number = 0u32;
-    let mut rest = Some(text);
-    while let Some(left) = rest {
-        let (line, more) = cut(b'\n', left);
-        number = number.saturating_add(1);
-        if !is_skipped(line) {
-            let Some(step) = step(alloc, line)? else {
-                return Err(Error::BadScript(number));
-            };
-            steps.push(step)?;
-        }
-        rest = more;
-    }
-    Ok(steps)
+    let mut reader = Reader::new(alloc);
+    let last = reader.read_lines(text)?;
+    reader.read_line(last)?;
+    Ok(reader.into_steps())
 }

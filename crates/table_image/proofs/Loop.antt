@@ -1,13 +1,9 @@
 -- Reading items in a loop.
-use Rattle.std.proofs.Common.{◌≡◌, ℕ, suc, ◌-◌, ◌+◌, ◌≤◌, ◌<◌, List, [], ◌∷◌, ◌++◌, length, take, get_or, Result, Ok, Err, refl, sym, ap}
-use Rattle.std.proofs.Common.{subst, ◌∙◌, append_assoc, arith}
-use Rattle.std.proofs.Math.Seq.{take-suc}
+use Rattle.std.proofs.Common.{◌≡◌, ℕ, suc, ◌-◌, ◌+◌, ◌≤◌, ◌<◌, List, [], ◌∷◌, ◌++◌, length, Result, Ok, Err, refl, sym, ap}
+use Rattle.std.proofs.Common.{◌∙◌, append_assoc, arith}
 use Rattle.std.proofs.lemmas.List.{append-nil, length-append}
 use Rattle.at_base.specs.Reading.{◌>>=◌, list_at}
 use Rattle.table_image.specs.declared.flaw.Fault.{Fault}
-use Rattle.table_image.specs.declared.flaw.Stop.{Stop}
-use Rattle.table_image.specs.declared.flaw.Stop.TheVariants as stops
-use Rattle.table_image.specs.Flaws.{StopsAs}
 
 -- reads one item, given the number that the one before it passes on
 abbrev pub Reader : Type 0 → Type 0
@@ -35,19 +31,6 @@ goes_on item next front low count i bytes y after total lt h so_far =
     rw (k, h) (regroup front y (list_at item next (next y) (count - (i + 1)) after)) in
     sym one ∙ so_far
 
--- one more item of a list was passed
-pub goes_on_in : {A : Type 0} (item : Reader A) (next : A
-    → ℕ) (xs : List A) (low i : ℕ) (bytes : List ℕ) (y : A) (after : List ℕ) (total : Result (List A × List ℕ) Fault)
-    → i < length xs → y ≡ get_or xs i y → item low bytes ≡ Ok (y, after)
-    → with_front (take i xs) (list_at item next low (length xs - i) bytes) ≡ total
-    → with_front (take (i + 1) xs) (list_at item next (next y) (length xs - (i + 1)) after) ≡ total
-goes_on_in {A} item next xs low i bytes y after total lt e h so_far =
-    let suc_is : suc i ≡ i + 1 = omega arith in
-    let longer : take i xs ++ y ∷ [] ≡ take (i + 1) xs =
-    ap (λ (x : A). take i xs ++ x ∷ []) e ∙ (sym (take-suc xs i y lt) ∙ ap (λ (n : ℕ). take n xs) suc_is) in
-    subst (λ (front : List A). with_front front (list_at item next (next y) (length xs - (i + 1)) after) ≡ total) longer
-    (goes_on item next (take i xs) low (length xs) i bytes y after total lt h so_far)
-
 -- an item has a fault
 pub refuses : {A : Type 0} (item : Reader A) (next : A
     → ℕ) (f : Fault) (front : List A) (low count i : ℕ) (bytes : List ℕ) (total : Result (List A × List ℕ) Fault)
@@ -57,15 +40,6 @@ refuses {A} item next f front low count i bytes total lt h so_far =
     let k : count - i ≡ suc (count - (i + 1)) = omega arith in
     let one : with_front front (list_at item next low (count - i) bytes) ≡ Err f = rw (k, h) refl in
     sym so_far ∙ one
-
--- reading an item stopped
-pub stops_as : {A : Type 0} (item : Reader A) (next : A
-    → ℕ) (e : Stop) (front : List A) (low count i : ℕ) (bytes : List ℕ) (total : Result (List A × List ℕ) Fault)
-    → i < count → StopsAs e (item low bytes)
-    → with_front front (list_at item next low (count - i) bytes) ≡ total → StopsAs e total
-stops_as item next stops.Memory front low count i bytes total lt h so_far = tt
-stops_as item next (stops.Refused f) front low count i bytes total lt h so_far =
-    refuses item next f front low count i bytes total lt h so_far
 
 -- all items were read
 pub is_done : {A : Type 0} (item : Reader A) (next : A

@@ -6,8 +6,6 @@ use Rattle.at_base.specs.declared.error.Cause.TheVariants.{Cut}
 use Rattle.at_base.specs.Grammar.{Refusals}
 use Rattle.table_image.specs.declared.flaw.Fault.{Fault}
 use Rattle.table_image.specs.declared.flaw.Flaw.{Flaw}
-use Rattle.table_image.specs.declared.flaw.Stop.{Stop}
-use Rattle.table_image.specs.declared.flaw.Stop.TheVariants as stops
 
 -- what is wrong with a field, reported at its first byte, or so many bytes before it: a text at its length byte, an
 -- address that is tested at its node at its network
@@ -27,16 +25,6 @@ faults = record { cut = record { left = 0; cause = Cut }; placed = fault_of }
 -- the flaw of a fault that was found when so many bytes of the image had been taken in, those left among them
 abbrev pub flaw_after : ℕ → Fault → Flaw
 flaw_after taken f = record { place = taken - f.left; cause = f.cause }
-
--- the reason for stopping is the fault that reading finds, or a failed allocation
-abbrev pub StopsAs : {Y : Type 0} → Stop → Result Y Fault → Type 0
-StopsAs stops.Memory reading = Unit {0}
-StopsAs (stops.Refused f) reading = reading ≡ Err f
-
--- a function's result, seen through view, is the result of reading, unless an allocation failed
-abbrev pub GivesOrStops : {X Y : Type 0} → (X → Y) → Result X Stop → Result Y Fault → Type 0
-GivesOrStops view (Ok x) reading = reading ≡ Ok (view x)
-GivesOrStops view (Err e) reading = StopsAs e reading
 
 -- a function read past a value without storing it: it returned what is needed of that value, and the bytes after it
 abbrev pub GoesPast : {A B X : Type 0} → (A → B) → (X → B × List ℕ) → Result X Fault → Result (A × List ℕ) Fault → Type 0

@@ -4,16 +4,16 @@ ghost use Rattle.table_image.specs.Spelling.{cable_spelling};
 
 use crate::checking::CheckItem;
 use crate::context::Context;
-use crate::flaw::{Fault, Flaw, Stop};
+use crate::flaw::{Fault, Flaw};
 use crate::input::u16_at;
-use crate::item::{Item, ReadItem, WriteItem};
+use crate::item::{Item, PassItem, WriteItem};
 use crate::listed::Listed;
 use crate::output::put_u16;
 use crate::sizes::RANGE_SIZE;
 use crate::version::Version;
-use crate::zones::{check_zones, pass_zones, put_zones, zones_at};
+use crate::zones::{check_zones, pass_zones, put_zones};
 use at_base::Name;
-use std::alloc::{AllocError, Global};
+use std::alloc::AllocError;
 
 /// A cable: a network of the internet. In AppleTalk Phase 2 it has a range of network numbers.
 ///
@@ -40,22 +40,7 @@ impl Item for Cable {
     fn written_alike() {}
 }
 
-impl ReadItem for Cable {
-    #[tactic(auto, unfolding(crate::specs::Spelling::cable_spelling))]
-    fn read_one<'a>(
-        alloc: Global,
-        context: Context,
-        _low: u32,
-        like: Option<&Cable>,
-        bytes: &'a [u8],
-    ) -> Result<(Cable, &'a [u8]), Stop> {
-        let (start, rest) = u16_at(bytes)?;
-        let (end, rest) = u16_at(rest)?;
-        let like = like.map(|cable| &cable.zones);
-        let (zones, rest) = zones_at(alloc, context.version, like, rest)?;
-        Ok((Cable { start, end, zones }, rest))
-    }
-
+impl PassItem for Cable {
     #[tactic(auto, unfolding(crate::specs::Spelling::cable_spelling))]
     fn pass_one(context: Context, _low: u32, bytes: &[u8]) -> Result<(u32, &[u8]), Fault> {
         let (_start, rest) = u16_at(bytes)?;

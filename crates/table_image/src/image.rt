@@ -1,7 +1,7 @@
 //! The image of an internet's tables.
 
-ghost use Rattle.std.specs.Prelude.{◌≡◌, ◌+◌, ◌^◌, ◌<◌, ◌++◌, ◌⊎◌, ℕ, List, length, OnOk, IfOk};
-ghost use Rattle.std.specs.Prelude.{IfErr, IsOkUnless, IsTrue, false, MatchResult, ◌↔◌, ◌≤◌, map};
+ghost use Rattle.std.specs.Prelude.{◌≡◌, ◌++◌, ◌⊎◌, ℕ, List, length, OnOk, IfOk};
+ghost use Rattle.std.specs.Prelude.{IfErr, IsOkUnless, IsTrue, false, ◌↔◌, ◌≤◌, map};
 ghost use Rattle.std.specs.Prelude.{Some, option_map};
 ghost use Rattle.table_image.specs.RouteRows.{route_row, have_ranges, rows_at};
 ghost use Rattle.std.specs.Result.{OkIff};
@@ -9,22 +9,18 @@ ghost use Rattle.table_image.specs.Short.{is_short};
 ghost use Rattle.at_base.specs.Spelling.{bytes_of, IsValue, Spells};
 ghost use Rattle.table_image.specs.Internet.{Internet, internet};
 ghost use Rattle.table_image.specs.Bounds.{IsBounded};
-ghost use Rattle.table_image.specs.Flaws.{flaw_after};
 ghost use Rattle.table_image.specs.Spelling.{front_spelling, image_spelling};
-ghost use Rattle.table_image.specs.Reading.{IsFirstFlaw, refusal, Refuses, RefusesFirst};
+ghost use Rattle.table_image.specs.Reading.{IsFirstFlaw, refusal, RefusesFirst};
 ghost use Rattle.table_image.specs.declared.flaw.Flaw.{Flaw};
 
 use crate::cable::Cable;
 use crate::context::Context;
 use crate::count::CountSize;
-use crate::flaw::{Fault, Stop};
 use crate::item::put_counted;
 use crate::listed::Listed;
 use crate::making::{are_short, check_parts};
 use crate::node::Node;
 use crate::output::put_byte;
-use crate::passing::look_through;
-use crate::reading::{Parts, whole};
 use crate::route_rows::{all_have_ranges, route_rows};
 use crate::router::Router;
 use crate::version::Version;
@@ -172,61 +168,6 @@ impl Image {
             return Err(Error::BadRange);
         }
         route_rows(alloc, rows)
-    }
-}
-
-// The limits of an image keep the offset of a flaw below 2 ^ 32.
-fn refused(bytes: &[u8], fault: Fault) -> Error
-    requires { length bytes.now < fault.left + 2 ^ 32 }
-    ensures { result ≡ refusal (flaw_after (length bytes.now) fault) }
-{
-    let place = bytes.len().saturating_sub(fault.left);
-    Error::BadImage(place as u32, fault.cause)
-}
-
-// The error after a failed allocation. It is `Memory` only if the bytes spell an image, so the
-// whole input is checked, without an allocation.
-fn refused_for_memory(bytes: &[u8]) -> Error
-    ensures refused { Refuses bytes.now result }
-    ensures first { (f : Flaw) → IsFirstFlaw bytes.now f → result ≡ refusal f }
-{
-    match look_through(bytes) {
-        Ok(()) => Error::Memory,
-        Err(fault) => refused(bytes, fault),
-    }
-}
-
-/// The image that the bytes spell; it goes up to their end. Errors: `BadImage`, the first flaw of
-/// bytes that spell no image, with its offset from the first byte; `Memory`, only where they spell
-/// one.
-pub fn read(alloc: Global, bytes: &[u8]) -> Result<Image, Error>
-    // The bytes spell the image that is returned.
-    ensures found { IfOk result (λ i. Spells image_spelling bytes.now i) }
-    // If the bytes spell an image, it is returned, unless memory runs out.
-    ensures only { (i : Internet) → Spells image_spelling bytes.now i
-        → MatchResult result (λ j. j ≡ i) (λ e. e ≡ Error.Memory) }
-    // If the bytes have a flaw, it is reported.
-    ensures first { (f : Flaw) → IsFirstFlaw bytes.now f → result ≡ Err (refusal f) }
-    // An error reports the first flaw, or a failed allocation where the bytes spell an image.
-    ensures refused { IfErr result (Refuses bytes.now) }
-{
-    match whole(alloc, bytes) {
-        Ok(parts) => {
-            let Parts {
-                version,
-                cables,
-                routers,
-                nodes,
-            } = parts;
-            Ok(Image {
-                version,
-                cables,
-                routers,
-                nodes,
-            })
-        }
-        Err(Stop::Memory) => Err(refused_for_memory(bytes)),
-        Err(Stop::Refused(fault)) => Err(refused(bytes, fault)),
     }
 }
 

@@ -7,18 +7,18 @@ ghost use Rattle.at_base.specs.Spelling.{bytes_of};
 ghost use Rattle.at_base.specs.Reading.{Gives, read, list_at};
 ghost use Rattle.table_image.specs.Contexts.{nothing};
 ghost use Rattle.table_image.specs.Counts.{size_of};
-ghost use Rattle.table_image.specs.Flaws.{Wrong, faults, GivesOrStops, GoesPast};
+ghost use Rattle.table_image.specs.Flaws.{Wrong, faults, GoesPast};
 ghost use Rattle.table_image.specs.Spelling.{counted};
 ghost use Rattle.table_image.specs.declared.context.Context.{Context as ContextValue};
 
 use crate::context::Context;
 use crate::count::CountSize;
-use crate::flaw::{Fault, Stop};
+use crate::flaw::Fault;
 use crate::input::count_within;
 use crate::listed::Listed;
 use crate::output::put_count;
 use crate::version::Version;
-use std::alloc::{AllocError, Global};
+use std::alloc::AllocError;
 
 /// A part of an image that lists consist of.
 pub trait Item: Drop {
@@ -41,20 +41,8 @@ pub trait Item: Drop {
             ≡ bytes_of (spelling (nothing context.version) 0) x };
 }
 
-/// A part that can be read.
-pub trait ReadItem: Item {
-    /// The part at the front of the bytes, and the bytes after it. `like` is a part that was read
-    /// before; if this one is like it, reading takes less time and memory, with the same result.
-    fn read_one<'a>(
-        alloc: Global,
-        context: Context,
-        low: u32,
-        like: Option<&Self>,
-        bytes: &'a [u8],
-    ) -> Result<(Self, &'a [u8]), Stop>
-        ensures { GivesOrStops (λ x. (x.0, x.1.now)) result
-            (read faults (Self.spelling context low) bytes.now) };
-
+/// A part that can be passed over.
+pub trait PassItem: Item {
     /// Reads past the part at the front of the bytes without an allocation: returns the number that
     /// the part passes on, and the bytes after it.
     fn pass_one(context: Context, low: u32, bytes: &[u8]) -> Result<(u32, &[u8]), Fault>
@@ -70,21 +58,7 @@ pub trait FlatItem: Item {
             (read faults (Self.spelling context low) bytes.now) };
 }
 
-impl<T: FlatItem> ReadItem for T {
-    #[inline(always)]
-    fn read_one<'a>(
-        _alloc: Global,
-        context: Context,
-        low: u32,
-        _like: Option<&T>,
-        bytes: &'a [u8],
-    ) -> Result<(T, &'a [u8]), Stop> {
-        match T::flat_at(context, low, bytes) {
-            Ok(found) => Ok(found),
-            Err(fault) => Err(Stop::Refused(fault)),
-        }
-    }
-
+impl<T: FlatItem> PassItem for T {
     fn pass_one(context: Context, low: u32, bytes: &[u8]) -> Result<(u32, &[u8]), Fault> {
         match T::flat_at(context, low, bytes) {
             Ok((found, rest)) => Ok((found.next_low(), rest)),
@@ -101,67 +75,7 @@ pub trait WriteItem: Item {
             ≡ out.old.items ++ bytes_of (Self.spelling (nothing version) 0) self.now) };
 }
 
-// A list of one part needs no allocation of its own.
-fn single_of<'a, T: ReadItem>(
-    alloc: Global,
-    context: Context,
-    like: Option<&T>,
-    bytes: &'a [u8],
-) -> Result<(Listed<T>, &'a [u8]), Stop>
-    ensures { GivesOrStops (λ x. (x.0, x.1.now)) result
-        (list_at (λ low. read faults (T.spelling context low)) T.next 0 1 bytes.now) }
-{
-    let (item, rest) = T::read_one(alloc, context, 0, like, bytes)?;
-    Ok((Listed::one(item), rest))
-}
-
-// The count says how much room the list needs, so it is allocated once. Each part is compared with
-// the part of the same index in the other list, or else with the one before it.
-fn list_of<'a, T: ReadItem>(
-    alloc: Global,
-    context: Context,
-    count: u16,
-    likes: &[T],
-    bytes: &'a [u8],
-) -> Result<(Listed<T>, &'a [u8]), Stop>
-    ensures { GivesOrStops (λ x. (x.0, x.1.now)) result
-        (list_at (λ low. read faults (T.spelling context low)) T.next 0 count bytes.now) }
-{
-    let mut items = Vec::with_capacity(alloc, count as usize)?;
-    let mut rest = bytes;
-    let mut low = 0;
-    for i in 0..count {
-        let like = likes.get(i as usize).or(items.last());
-        let (item, after) = T::read_one(alloc, context, low, like, rest)?;
-        low = item.next_low();
-        items.push(item)?;
-        rest = after;
-    }
-    Ok((Listed::from_vec(items), rest))
-}
-
-/// A count of this size, at most the limit, and as many parts. `likes` is another list; parts that
-/// are like its parts take less time and memory, with the same result.
-#[tactic(auto, unfolding(crate::specs::Spelling::counted))]
-pub(crate) fn counted_of<'a, T: ReadItem>(
-    alloc: Global,
-    size: CountSize,
-    limit: usize,
-    context: Context,
-    likes: &[T],
-    bytes: &'a [u8],
-) -> Result<(Listed<T>, &'a [u8]), Stop>
-    ensures { GivesOrStops (λ x. (x.0, x.1.now)) result
-        (read faults (counted (size_of size) limit (T.spelling context) T.next) bytes.now) }
-{
-    let (count, rest) = count_within(bytes, size, limit)?;
-    if count == 1 {
-        return single_of(alloc, context, likes.first(), rest);
-    }
-    list_of(alloc, context, count, likes, rest)
-}
-
-fn pass_list<T: ReadItem>(
+fn pass_list<T: PassItem>(
     context: Context,
     count: u16,
     bytes: &[u8],
@@ -181,7 +95,7 @@ fn pass_list<T: ReadItem>(
 
 /// Reads past a count and as many parts, and returns their number.
 #[tactic(auto, unfolding(crate::specs::Spelling::counted))]
-pub(crate) fn pass_counted<T: ReadItem>(
+pub(crate) fn pass_counted<T: PassItem>(
     size: CountSize,
     limit: usize,
     context: Context,

@@ -5,7 +5,7 @@ ghost use Rattle.at_base.specs.Address.{address_number};
 ghost use Rattle.at_base.specs.Reading.{read};
 ghost use Rattle.at_base.specs.Spelling.{bytes_of};
 ghost use Rattle.table_image.specs.Checking.{Checks};
-ghost use Rattle.table_image.specs.Flaws.{faults, GivesOrStops, GoesPast};
+ghost use Rattle.table_image.specs.Flaws.{faults, GoesPast};
 ghost use Rattle.table_image.specs.Sizes.{mappings_size};
 ghost use Rattle.table_image.specs.Spelling.{mapping_spelling, mappings_spelling};
 ghost use Rattle.table_image.specs.Versions as spec;
@@ -13,16 +13,16 @@ ghost use Rattle.table_image.specs.Versions as spec;
 use crate::checking::{CheckItem, check_counted};
 use crate::context::Context;
 use crate::count::CountSize;
-use crate::flaw::{Fault, Flaw, Stop};
+use crate::flaw::{Fault, Flaw};
 use crate::input::{address_node_at, hardware_at, u16_at};
-use crate::item::{FlatItem, Item, WriteItem, counted_of, pass_counted, put_counted};
+use crate::item::{FlatItem, Item, WriteItem, pass_counted, put_counted};
 use crate::listed::Listed;
 use crate::output::{put_byte, put_u16};
 use crate::sizes::MAPPING_SIZE;
 use crate::version::Version;
 use at_base::limits::MAX_MAPPINGS;
 use at_base::{Addr, Cause, Hw};
-use std::alloc::{AllocError, Global};
+use std::alloc::AllocError;
 
 /// A mapping that a port or a node has learnt: an address of its cable, and the hardware address of
 /// the station that has it.
@@ -101,25 +101,6 @@ impl CheckItem for Mapping {
             });
         }
         Ok(at + MAPPING_SIZE)
-    }
-}
-
-/// The mappings of a port or a node of a version's image: none in version 1.
-#[tactic(auto, unfolding(crate::specs::Spelling::mappings_spelling))]
-pub(crate) fn mappings_at(
-    alloc: Global,
-    version: Version,
-    bytes: &[u8],
-) -> Result<(Listed<Mapping>, &[u8]), Stop>
-    ensures { GivesOrStops (λ x. (x.0, x.1.now)) result
-        (read faults (mappings_spelling version) bytes.now) }
-{
-    match version {
-        Version::V1 => Ok((Listed::from_vec(Vec::new(alloc)), bytes)),
-        Version::V2 => {
-            let context = Context::nothing(version);
-            counted_of::<Mapping>(alloc, CountSize::Two, MAX_MAPPINGS, context, &[], bytes)
-        }
     }
 }
 

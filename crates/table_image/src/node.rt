@@ -14,19 +14,19 @@ ghost use Rattle.table_image.specs.Sizes.{text_size};
 use crate::checking::{CheckItem, check_counted};
 use crate::context::Context;
 use crate::count::CountSize;
-use crate::flaw::{Fault, Flaw, Stop};
+use crate::flaw::{Fault, Flaw};
 use crate::input::{
     address_at, byte_within, entity_at, enumerator_at, hardware_at, index_at, name_at,
 };
-use crate::item::{FlatItem, Item, ReadItem, WriteItem, counted_of, pass_counted, put_counted};
+use crate::item::{FlatItem, Item, PassItem, WriteItem, pass_counted, put_counted};
 use crate::listed::Listed;
-use crate::mapping::{Mapping, check_mappings, mappings_at, pass_mappings, put_mappings};
+use crate::mapping::{Mapping, check_mappings, pass_mappings, put_mappings};
 use crate::output::{put_address, put_byte, put_text};
 use crate::sizes::{BYTE_SIZE, OWN_ROUTER_SIZE, SEAT_SIZE};
 use crate::version::Version;
 use at_base::limits::MAX_NAMES;
 use at_base::{Addr, Cause, Hw, Name, Text32, is_entity};
-use std::alloc::{AllocError, Global};
+use std::alloc::AllocError;
 
 /// A name registered for one of a node's sockets. Its zone is the node's.
 ///
@@ -151,46 +151,7 @@ impl Item for Node {
     fn written_alike() {}
 }
 
-impl ReadItem for Node {
-    #[tactic(auto, unfolding(crate::specs::Spelling::node_spelling))]
-    fn read_one<'a>(
-        alloc: Global,
-        context: Context,
-        _low: u32,
-        _like: Option<&Node>,
-        bytes: &'a [u8],
-    ) -> Result<(Node, &'a [u8]), Stop> {
-        let (cable, rest) = index_at(bytes, context.cables)?;
-        let (address, rest) = address_at(rest)?;
-        let (hardware, rest) = hardware_at(rest)?;
-        let (zone, rest) = match name_at(rest) {
-            Ok(found) => found,
-            Err(fault) => return Err(Stop::Refused(fault)),
-        };
-        let (router, rest) = own_router_at(rest)?;
-        let (names, rest) = counted_of::<NodeName>(
-            alloc,
-            CountSize::One,
-            MAX_NAMES,
-            context,
-            &[],
-            rest,
-        )?;
-        let (mappings, rest) = mappings_at(alloc, context.version, rest)?;
-        Ok((
-            Node {
-                cable,
-                address,
-                hardware,
-                zone,
-                router,
-                names,
-                mappings,
-            },
-            rest,
-        ))
-    }
-
+impl PassItem for Node {
     #[tactic(auto, unfolding(crate::specs::Spelling::node_spelling))]
     fn pass_one(context: Context, _low: u32, bytes: &[u8]) -> Result<(u32, &[u8]), Fault> {
         let (_cable, rest) = index_at(bytes, context.cables)?;

@@ -48,7 +48,7 @@ fn pass_image(bytes: &[u8]) -> Result<(usize, &[u8]), Fault>
 /// Reads past the image that the bytes spell, without an allocation: whether they spell one, and
 /// their first fault if they don't.
 #[tactic(auto, unfolding(crate::specs::Reading::image_at))]
-pub(crate) fn look_through(bytes: &[u8]) -> Result<(), Fault>
+pub fn look_through(bytes: &[u8]) -> Result<(), Fault>
     ensures spells { OnOk result ((i : Internet) × (image_at bytes.now ≡ Ok i)) }
     ensures flawed { IfErr result (λ f. image_at bytes.now ≡ Err f) }
 {

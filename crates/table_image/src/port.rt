@@ -5,16 +5,16 @@ ghost use Rattle.table_image.specs.Spelling.{port_spelling};
 
 use crate::checking::CheckItem;
 use crate::context::Context;
-use crate::flaw::{Fault, Flaw, Stop};
+use crate::flaw::{Fault, Flaw};
 use crate::input::{address_at, hardware_at, index_at};
-use crate::item::{Item, ReadItem, WriteItem};
+use crate::item::{Item, PassItem, WriteItem};
 use crate::listed::Listed;
-use crate::mapping::{Mapping, check_mappings, mappings_at, pass_mappings, put_mappings};
+use crate::mapping::{Mapping, check_mappings, pass_mappings, put_mappings};
 use crate::output::{put_address, put_byte};
 use crate::sizes::SEAT_SIZE;
 use crate::version::Version;
 use at_base::{Addr, Cause, Hw};
-use std::alloc::{AllocError, Global};
+use std::alloc::AllocError;
 
 /// A port of a router, which attaches it to a cable.
 ///
@@ -44,30 +44,7 @@ impl Item for Port {
     fn written_alike() {}
 }
 
-impl ReadItem for Port {
-    #[tactic(auto, unfolding(crate::specs::Spelling::port_spelling))]
-    fn read_one<'a>(
-        alloc: Global,
-        context: Context,
-        _low: u32,
-        _like: Option<&Port>,
-        bytes: &'a [u8],
-    ) -> Result<(Port, &'a [u8]), Stop> {
-        let (cable, rest) = index_at(bytes, context.cables)?;
-        let (address, rest) = address_at(rest)?;
-        let (hardware, rest) = hardware_at(rest)?;
-        let (mappings, rest) = mappings_at(alloc, context.version, rest)?;
-        Ok((
-            Port {
-                cable,
-                address,
-                hardware,
-                mappings,
-            },
-            rest,
-        ))
-    }
-
+impl PassItem for Port {
     #[tactic(auto, unfolding(crate::specs::Spelling::port_spelling))]
     fn pass_one(context: Context, _low: u32, bytes: &[u8]) -> Result<(u32, &[u8]), Fault> {
         let (_cable, rest) = index_at(bytes, context.cables)?;

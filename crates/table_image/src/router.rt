@@ -5,15 +5,15 @@ ghost use Rattle.table_image.specs.Spelling.{router_spelling};
 use crate::checking::{CheckItem, check_counted};
 use crate::context::Context;
 use crate::count::CountSize;
-use crate::flaw::{Fault, Flaw, Stop};
-use crate::item::{Item, ReadItem, WriteItem, counted_of, pass_counted, put_counted};
+use crate::flaw::{Fault, Flaw};
+use crate::item::{Item, PassItem, WriteItem, pass_counted, put_counted};
 use crate::listed::Listed;
 use crate::port::Port;
 use crate::row::Row;
 use crate::version::Version;
-use crate::zone_list::{ZoneList, lists_at};
+use crate::zone_list::ZoneList;
 use at_base::limits::{MAX_LISTS, MAX_PORTS, MAX_ROWS};
-use std::alloc::{AllocError, Global};
+use std::alloc::AllocError;
 
 /// A router: its ports, its routing table and its zone information table.
 ///
@@ -40,32 +40,7 @@ impl Item for Router {
     fn written_alike() {}
 }
 
-// The routers of an internet know the same zones, so a router's zone lists are usually those of the
-// router before it.
-impl ReadItem for Router {
-    #[tactic(auto, unfolding(crate::specs::Spelling::router_spelling))]
-    fn read_one<'a>(
-        alloc: Global,
-        context: Context,
-        _low: u32,
-        like: Option<&Router>,
-        bytes: &'a [u8],
-    ) -> Result<(Router, &'a [u8]), Stop> {
-        let (ports, rest) = counted_of::<Port>(
-            alloc,
-            CountSize::One,
-            MAX_PORTS,
-            context,
-            &[],
-            bytes,
-        )?;
-        let of_ports = context.with_ports(ports.len());
-        let (rows, rest) = counted_of::<Row>(alloc, CountSize::One, MAX_ROWS, of_ports, &[], rest)?;
-        let like = like.map(|router| &router.lists);
-        let (lists, rest) = lists_at(alloc, context.version, like, rest)?;
-        Ok((Router { ports, rows, lists }, rest))
-    }
-
+impl PassItem for Router {
     #[tactic(auto, unfolding(crate::specs::Spelling::router_spelling))]
     fn pass_one(context: Context, _low: u32, bytes: &[u8]) -> Result<(u32, &[u8]), Fault> {
         let (ports, rest) = pass_counted::<Port>(CountSize::One, MAX_PORTS, context, bytes)?;

@@ -1,5 +1,6 @@
 //! What is answered of an image.
 
+use at_base::Error;
 use audit::audit;
 use case_words::{Answer, Stop, put_line};
 use drawing::print_drawing;
@@ -36,9 +37,17 @@ pub(crate) fn draw(alloc: Global, image: &Image, to: Option<u16>, text: &mut Str
     Ok(())
 }
 
+/// The image that a tables file says.
+pub(crate) fn image_of(alloc: Global, text: &[u8]) -> Result<Image, Error> {
+    match tables_file::read(alloc, text) {
+        Ok(image) => Ok(image),
+        Err(refused) => Err(refused.error),
+    }
+}
+
 /// Whether the tables file of an image says the same image.
 fn is_again(alloc: Global, image: &Image) -> Result<bool, Stop> {
-    let again = tables_file::read(alloc, shown(alloc, image)?.as_slice())?;
+    let again = image_of(alloc, shown(alloc, image)?.as_slice())?;
     Ok(write(alloc, &again)?.as_slice() == write(alloc, image)?.as_slice())
 }
 

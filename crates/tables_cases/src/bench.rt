@@ -1,6 +1,6 @@
 //! The bench of a case, with which its commands are carried out.
 
-use crate::answers;
+use crate::answers::{self, image_of};
 use case_words::{Answer, Bench, Stop, Words};
 use std::alloc::Global;
 use table_image::Image;
@@ -66,9 +66,9 @@ impl Tables {
     /// text in the words after it.
     fn image(&self, words: Words<'_>) -> Result<Image, Stop> {
         let image = if self.bytes.is_empty() {
-            tables_file::read(self.alloc, self.longer(words)?.as_slice())?
+            image_of(self.alloc, self.longer(words)?.as_slice())?
         } else {
-            table_image::read(self.alloc, self.bytes.as_slice())?
+            image_feed::read(self.alloc, self.bytes.as_slice())?
         };
         Ok(image)
     }

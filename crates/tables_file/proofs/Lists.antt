@@ -1,26 +1,21 @@
 -- What is read of the lists within an entry is valid in an image.
-use Rattle.std.proofs.Common.{◌≡◌, ℕ, ◌+◌, ◌-◌, ◌<◌, ◌≤◌, ◌^◌, Bool, true, ◌&&◌, cond, List, [], ◌∷◌, length, arith, nat_le, nat_lt, subst, codes, refl}
+use Rattle.std.proofs.Common.{◌≡◌, ℕ, ◌+◌, ◌-◌, ◌<◌, ◌≤◌, Bool, true, ◌&&◌, List, [], ◌∷◌, length, arith, nat_le, nat_lt, subst, codes, refl}
 use Rattle.std.proofs.Common.{false, sym}
 use Rattle.std.proofs.lemmas.Bool.{and_parts, leb-true, ltb-false, ltb-true}
 use Rattle.std.specs.Prelude.{Option, Some, None, IsTrue}
 use Rattle.std.specs.List.{AllByRecursion as Each}
-use Rattle.toml.specs.Data.{Data, Members, as_str, get_member}
+use Rattle.toml.specs.Data.{Data, Members, get_member}
 use Rattle.at_base.specs.Address.{address_number}
 use Rattle.at_base.specs.Grammar.{Grammar}
 use Rattle.at_base.specs.Limits.{max_lists, max_names, max_rows}
 use Rattle.at_base.specs.Range.{is_between}
 use Rattle.at_base.specs.Spelling.{IsValue, ListPasses}
 use Rattle.at_base.specs.Text.{IsEntity, IsName, is_entity, is_name}
-use Rattle.at_base.specs.declared.address.Addr.{Addr}
-use Rattle.at_base.specs.declared.address.Hw.{Hw}
 use Rattle.file_entries.proofs.Bounds.{address_is, hardware_is, number_is}
 use Rattle.file_entries.proofs.Given.{all_is, cond_is, each_holds, few_at_hold, few_hold, given_is, some_is}
-use Rattle.file_entries.specs.Entries.{all, all_numbered, at, at_or, entry, few, few_at, or_else}
+use Rattle.file_entries.specs.Entries.{at, at_or, entry, few, few_at, or_else}
 use Rattle.file_entries.specs.Values.{any_address, hardware, list, list_within, number}
 use Rattle.image_parts.proofs.Values.{list_value, mapping_value, mappings_value, name_value, row_value}
-use Rattle.rtmp.specs.declared.state.State.{State}
-use Rattle.table_image.proofs.Checked.{FitsMapping, FitsRow}
-use Rattle.table_image.proofs.CheckedParts.{FitsName}
 use Rattle.table_image.specs.Flaws.{Wrong}
 use Rattle.table_image.specs.Limits.{max_distance}
 use Rattle.table_image.specs.Spelling.{mapping_spelling, mappings_spelling, name_spelling, nowhere, row_spelling, zone_list_spelling}
@@ -34,9 +29,8 @@ use Rattle.table_image.specs.declared.zone_list.ZoneList.{ZoneList}
 use Rattle.tables_file.specs.Cables.{zones}
 use Rattle.tables_file.specs.Nodes.{name_of, names}
 use Rattle.tables_file.specs.Rising.{rise}
-use Rattle.tables_file.specs.Routers.{list_for, list_of, listed, lists, lists_from, mapping_of, mappings, rising, row_of, rows}
+use Rattle.tables_file.specs.Routers.{list_of, listed, lists, lists_from, mapping_of, mappings, rising, row_of, rows}
 use Rattle.tables_file.specs.Values.{bytes, ends, ends_of, flag, is_object, name_of as name_in, object, object_of, place, state, zone}
-use Rattle.text.specs.Words.{given}
 
 -- ---- Values
 

@@ -1,9 +1,9 @@
 -- Each cable, router and node that is read is valid in an image.
-use Rattle.std.proofs.Common.{◌≡◌, ℕ, ◌+◌, ◌<◌, ◌≤◌, List, [], ◌∷◌, length, arith, subst, codes, refl}
+use Rattle.std.proofs.Common.{◌≡◌, ℕ, ◌<◌, ◌≤◌, List, [], ◌∷◌, length, arith, subst, codes, refl}
 use Rattle.std.specs.Prelude.{Option, Some, None}
 use Rattle.std.specs.List.{AllByRecursion as Each}
 use Rattle.toml.specs.Data.{Data, Members}
-use Rattle.at_base.specs.Limits.{max_cables, max_lists, max_ports}
+use Rattle.at_base.specs.Limits.{max_cables, max_ports}
 use Rattle.at_base.specs.Spelling.{IsValue}
 use Rattle.at_base.specs.Text.{IsName}
 use Rattle.at_base.specs.declared.address.Addr.{Addr}
@@ -13,8 +13,7 @@ use Rattle.file_entries.proofs.Given.{few_at_hold, given_is, some_is}
 use Rattle.file_entries.specs.Entries.{at, at_or, entry, few_at}
 use Rattle.file_entries.specs.Values.{any_address, hardware}
 use Rattle.image_parts.proofs.Values.{cable_value, node_value, port_value, router_value}
-use Rattle.table_image.proofs.Checked.{FitsPort, address_value}
-use Rattle.table_image.proofs.CheckedParts.{FitsNode}
+use Rattle.table_image.proofs.Checked.{address_value}
 use Rattle.table_image.specs.Spelling.{cable_spelling, node_spelling, own_router_spelling, port_spelling, router_spelling}
 use Rattle.table_image.specs.declared.cable.Cable.{Cable}
 use Rattle.table_image.specs.declared.node.Node.{Node}
@@ -28,7 +27,7 @@ use Rattle.tables_file.specs.Marks.{made_up}
 use Rattle.tables_file.specs.Nodes.{names, node_keys, node_of, own_router, placed}
 use Rattle.tables_file.specs.Routers.{lists, mappings, port_of, router_of, rows}
 use Rattle.tables_file.specs.Values.{ends, place, zone}
-use Rattle.tables_file.specs.declared.node.Place.{Place}
+use Rattle.tables_file.specs.declared.node.Seat.{Seat}
 
 -- ---- Cables
 
@@ -105,14 +104,14 @@ unfolding own_router_spelling
 no_router = ((omega arith, refl), refl)
 
 -- Where a node is, in numbers that fit.
-pub record IsPlaced (count : ℕ) (p : Place) : Type 0 where
+pub record IsPlaced (count : ℕ) (p : Seat) : Type 0 where
   pub there : p.cable < count
   pub small : p.cable < 200
   pub fits : Fits p.address
   pub six : length p.hardware.0 ≡ 6
   pub router : IsValue own_router_spelling p.router
 
-placed_is : (count : ℕ) (other : Hw) (ms : Members) (p : Place) → length other.0 ≡ 6 → placed count other ms ≡ Some p → IsPlaced count p
+placed_is : (count : ℕ) (other : Hw) (ms : Members) (p : Seat) → length other.0 ≡ 6 → placed count other ms ≡ Some p → IsPlaced count p
 placed_is count other ms p six_of e =
     let cable = given_is (at (codes "cable") (place count) ms) _ p e in
     let a = given_is (at (codes "address") any_address ms) _ p cable.2 in

@@ -1,7 +1,6 @@
 -- What is read of a whole file is valid in an image.
-use Rattle.std.proofs.Common.{◌≡◌, ℕ, ◌≤◌, List, length, codes}
+use Rattle.std.proofs.Common.{◌≡◌, ℕ, List, length, codes}
 use Rattle.std.specs.Prelude.{Ok}
-use Rattle.std.specs.List.{AllByRecursion as Each}
 use Rattle.toml.specs.Data.{Members}
 use Rattle.at_base.specs.Limits.{max_cables, max_nodes, max_routers}
 use Rattle.at_base.specs.Spelling.{IsValue}

@@ -1,5 +1,5 @@
 -- Tables files: what each router and node of an internet holds.
-use Rattle.std.specs.Prelude.{ℕ, Bool, ◌&&◌, cond, List, [], ◌∷◌, Option, Some, None, Result, Ok, Err, codes, length}
+use Rattle.std.specs.Prelude.{ℕ, Bool, ◌&&◌, cond, List, [], ◌∷◌, Option, Some, None, Result, Ok, Err, codes, length, option_map}
 use Rattle.toml.specs.Data.{Members}
 use Rattle.at_base.specs.Limits.{max_cables, max_nodes, max_routers}
 use Rattle.at_base.specs.declared.error.Error.{Error}
@@ -23,15 +23,22 @@ use Rattle.tables_file.specs.Routers.{router_of}
 abbrev pub top_keys : List (List ℕ)
 top_keys = codes "version" ∷ codes "cable" ∷ codes "router" ∷ codes "node" ∷ []
 
+-- The tables of a file are lists.
+abbrev pub are_listed : Members → Bool
+are_listed ms = is_listed (codes "cable") ms && is_listed (codes "router") ms && is_listed (codes "node") ms
+
 -- The top level has only the keys of a file, and its tables are lists.
 abbrev pub is_top : Members → Bool
-is_top ms =
-    has_only top_keys ms && is_listed (codes "cable") ms && is_listed (codes "router") ms && is_listed (codes "node") ms
+is_top ms = has_only top_keys ms && are_listed ms
+
+-- The version, or the error of an invalid top level where there is none.
+abbrev pub version_or : Option Version → Result Version Error
+version_or (Some v) = Ok v
+version_or None = Err (BadFile part.Top 0)
 
 -- The version with a number, or the error of an invalid top level where there is no number.
 abbrev pub version_by : Option ℕ → Result Version Error
-version_by (Some n) = Ok (version_of n)
-version_by None = Err (BadFile part.Top 0)
+version_by n = version_or (option_map version_of n)
 
 -- The version of the image, 1 where the file doesn't say it, if the top level is valid.
 unfoldable pub version_in : Members → Result Version Error

@@ -12,7 +12,7 @@ use Rattle.table_image.specs.declared.version.Version.{Version}
 use Rattle.tables_file.specs.Marks.{made_up}
 use Rattle.tables_file.specs.Routers.{mappings, rising}
 use Rattle.tables_file.specs.Values.{object, place, zone}
-use Rattle.tables_file.specs.declared.node.Place.{Place}
+use Rattle.tables_file.specs.declared.node.Seat.{Seat}
 use Rattle.text.specs.Words.{given}
 
 -- The name in an entry of a node.
@@ -32,7 +32,7 @@ abbrev pub own_router : Data → Option (Option Addr)
 own_router d = option_map Some (any_address d)
 
 -- Where a node is, on one of so many cables, with this hardware address if it has no other.
-abbrev pub placed : ℕ → Hw → Members → Option Place
+abbrev pub placed : ℕ → Hw → Members → Option Seat
 placed cables other ms =
     given (at (codes "cable") (place cables) ms) (λ cable. given (at (codes "address") any_address ms) (λ a.
     given (at_or other (codes "hardware") hardware ms) (λ h. given (at_or None (codes "router") own_router ms) (λ router.

@@ -1,5 +1,5 @@
 -- The routers of a tables file: ports with mappings, rows, zone lists.
-use Rattle.std.specs.Prelude.{ℕ, ◌+◌, Bool, true, cond, if◌then◌else◌, List, [], ◌∷◌, Option, Some, None, codes, length, nat_lt}
+use Rattle.std.specs.Prelude.{ℕ, ◌+◌, true, cond, if◌then◌else◌, List, [], ◌∷◌, Option, Some, None, codes, length, nat_lt}
 use Rattle.toml.specs.Data.{Data, Members, get_member}
 use Rattle.at_base.specs.Address.{address_number}
 use Rattle.at_base.specs.Limits.{max_lists, max_ports, max_rows}

@@ -1,7 +1,8 @@
 //! Cables, and lists of zones.
 
-ghost use Rattle.std.specs.Prelude.{◌≡◌, IfOk, IsOkUnless};
+ghost use Rattle.std.specs.Prelude.{◌≡◌, IfOk, IsOkUnless, is_some};
 ghost use Rattle.file_entries.specs.Entries.{at};
+ghost use Rattle.file_entries.specs.Faults.{noted, spot};
 ghost use Rattle.toml.specs.View.{table_view, view};
 ghost use Rattle.tables_file.specs.Cables as cables_spec;
 ghost use Rattle.tables_file.specs.Cables.{cable_of};
@@ -10,9 +11,9 @@ ghost use Rattle.tables_file.specs.Values as values_spec;
 use crate::field::ends_at;
 use crate::value::zone;
 use at_base::{Error, Name};
-use file_entries::entries::{Reader, all};
-use file_entries::key::{entry, get};
-use file_entries::value::list_within;
+use file_entries::entries::{Reader, all_values};
+use file_entries::key::{list_here, only, table, value_at};
+use file_entries::{Faults, Place};
 use std::alloc::Global;
 use table_image::{Cable, Listed, Version};
 use toml::{Table, Value};
@@ -29,22 +30,31 @@ impl Reader for ZoneNames {
     fn read_one(
         &self,
         alloc: Global,
+        place: &Place,
         _number: usize,
         value: &Value,
+        faults: &mut Faults,
     ) -> Result<Option<Name>, Error> {
-        zone(alloc, value)
+        Ok(faults.take_here(place, zone(alloc, value)?))
     }
 }
 
 /// A list of zone names, at most as many as the version allows. Error: `Memory`.
-fn zones(alloc: Global, version: Version, value: &Value) -> Result<Option<Listed<Name>>, Error>
+fn zones(
+    alloc: Global,
+    version: Version,
+    place: &Place,
+    value: &Value,
+    faults: &mut Faults,
+) -> Result<Option<Listed<Name>>, Error>
     ensures read { IfOk result (λ x. x ≡ cables_spec.zones version (view value.now)) }
+    ensures told { IfOk result (λ x. faults.new ≡ noted (spot place.now) (is_some x) faults.old) }
     ensures refused { IsOkUnless result Error.Memory }
 {
-    let Some(values) = list_within(0, version.zone_limit(), value) else {
+    let Some(values) = list_here(place, 0, version.zone_limit(), value, faults) else {
         return Ok(None);
     };
-    match all(alloc, &ZoneNames, values)? {
+    match all_values(alloc, &ZoneNames, place, values, faults)? {
         Some(names) => Ok(Some(Listed::from_vec(names.into_vec()))),
         None => Ok(None),
     }
@@ -54,15 +64,18 @@ fn zones(alloc: Global, version: Version, value: &Value) -> Result<Option<Listed
 pub(crate) fn zones_at(
     alloc: Global,
     version: Version,
+    place: &Place,
     table: &Table,
     key: &str,
+    faults: &mut Faults,
 ) -> Result<Option<Listed<Name>>, Error>
     ensures read { IfOk result (λ x.
         x ≡ at key.now (cables_spec.zones version) (table_view table.now)) }
+    ensures told { IfOk result (λ x. faults.new ≡ noted (spot place.now) (is_some x) faults.old) }
     ensures refused { IsOkUnless result Error.Memory }
 {
-    match get(table, key) {
-        Some(value) => zones(alloc, version, value),
+    match value_at(place, table, key, faults) {
+        Some(value) => zones(alloc, version, &place.at(key), value, faults),
         None => Ok(None),
     }
 }
@@ -81,18 +94,28 @@ impl Reader for Cables {
     fn read_one(
         &self,
         alloc: Global,
+        place: &Place,
         _number: usize,
         value: &Value,
+        faults: &mut Faults,
     ) -> Result<Option<Cable>, Error> {
-        let Some(table) = entry(&["range", "zones"], value) else {
+        let Some(table) = table(place, value, faults) else {
             return Ok(None);
         };
-        let Some((start, end)) = ends_at(table, "range") else {
-            return Ok(None);
-        };
-        match zones_at(alloc, self.version, table, "zones")? {
-            Some(zones) => Ok(Some(Cable { start, end, zones })),
-            None => Ok(None),
+        let only = only(&["range", "zones"], place, table, faults);
+        let range = faults.take(place, "range", ends_at(table, "range"));
+        let zones = zones_at(alloc, self.version, place, table, "zones", faults)?;
+        match (only, range, zones) {
+            (true, Some((start, end)), Some(zones)) => Ok(Some(Cable { start, end, zones })),
+            _ => Ok(None),
         }
+    }
+
+    fn stand_in(&self, alloc: Global) -> Result<Option<Cable>, Error> {
+        Ok(Some(Cable {
+            start: 0,
+            end: 0,
+            zones: Listed::from_vec(Vec::new(alloc)),
+        }))
     }
 }

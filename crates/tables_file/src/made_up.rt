@@ -44,7 +44,7 @@ fn bears(mark: u16, hardware: Option<Hw>) -> bool
 fn given_in(value: &Value) -> Option<Hw>
     ensures { result ≡ spec.given_in (view value.now) }
 {
-    hardware_at(value.as_table()?, "hardware")
+    hardware_at(value.as_table()?, "hardware").ok()
 }
 
 /// Whether the entry of a port or a node gives a hardware address that begins with 2 and the mark.

@@ -1,6 +1,7 @@
 //! Names of nodes.
 
-ghost use Rattle.std.specs.Prelude.{◌≡◌, IfOk, IsOkUnless};
+ghost use Rattle.std.specs.Prelude.{◌≡◌, IfOk, IsOkUnless, is_some};
+ghost use Rattle.file_entries.specs.Faults.{noted, spot};
 ghost use Rattle.toml.specs.View.{table_view};
 ghost use Rattle.tables_file.specs.Nodes as spec;
 ghost use Rattle.tables_file.specs.Nodes.{name_of};
@@ -11,7 +12,8 @@ use at_base::Error;
 use at_base::limits::MAX_NAMES;
 use file_entries::entries::{Reader, few_at};
 use file_entries::fields::number_at;
-use file_entries::key::entry;
+use file_entries::key::{only, table};
+use file_entries::{Faults, Place, Rising};
 use std::alloc::Global;
 use table_image::{Listed, NodeName};
 use toml::{Table, Value};
@@ -20,6 +22,7 @@ use toml::{Table, Value};
 #[derive(Clone, Copy)]
 struct Names;
 
+#[tactic(auto, using(file_entries::proofs::Notes::noted_again))]
 impl Reader for Names {
     type Entry = NodeName;
 
@@ -28,40 +31,45 @@ impl Reader for Names {
     fn read_one(
         &self,
         alloc: Global,
+        place: &Place,
         _number: usize,
         value: &Value,
+        faults: &mut Faults,
     ) -> Result<Option<NodeName>, Error> {
-        let Some(table) = entry(&["object", "type", "socket", "enumerator"], value) else {
+        let Some(table) = table(place, value, faults) else {
             return Ok(None);
         };
-        let Some(object) = object_at(alloc, table, "object")? else {
-            return Ok(None);
-        };
-        let Some(kind) = object_at(alloc, table, "type")? else {
-            return Ok(None);
-        };
-        let Some(socket) = number_at(table, "socket", 1, 254) else {
-            return Ok(None);
-        };
-        match number_at(table, "enumerator", 1, 255) {
-            Some(enumerator) => Ok(Some(NodeName {
+        let named = ["object", "type", "socket", "enumerator"];
+        let only = only(&named, place, table, faults);
+        let object = faults.take(place, "object", object_at(alloc, table, "object")?);
+        let kind = faults.take(place, "type", object_at(alloc, table, "type")?);
+        let socket = faults.take(place, "socket", number_at(table, "socket", 1, 254));
+        let number = faults.take(place, "enumerator", number_at(table, "enumerator", 1, 255));
+        match (only, object, kind, socket, number) {
+            (true, Some(object), Some(kind), Some(socket), Some(number)) => Ok(Some(NodeName {
                 socket: socket as u8,
-                enumerator: enumerator as u8,
+                enumerator: number as u8,
                 object,
                 kind,
             })),
-            None => Ok(None),
+            _ => Ok(None),
         }
     }
 }
 
 /// The names in an entry of a node. Error: `Memory`.
-pub(crate) fn names_at(alloc: Global, table: &Table) -> Result<Option<Listed<NodeName>>, Error>
+pub(crate) fn names_at(
+    alloc: Global,
+    place: &Place,
+    table: &Table,
+    faults: &mut Faults,
+) -> Result<Option<Listed<NodeName>>, Error>
     ensures read { IfOk result (λ x. x ≡ spec.names (table_view table.now)) }
+    ensures told { IfOk result (λ x. faults.new ≡ noted (spot place.now) (is_some x) faults.old) }
     ensures refused { IsOkUnless result Error.Memory }
 {
-    match few_at(alloc, MAX_NAMES, table, "name", &Names)? {
-        Some(names) => Ok(rising(names)),
+    match few_at(alloc, MAX_NAMES, &Names, place, table, "name", faults)? {
+        Some(names) => Ok(rising(names, &place.at("name"), Rising::Enumerator, faults)),
         None => Ok(None),
     }
 }

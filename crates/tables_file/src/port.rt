@@ -8,7 +8,8 @@ use crate::mapping::mappings_at;
 use at_base::Error;
 use file_entries::entries::Reader;
 use file_entries::fields::{address_at, hardware_or};
-use file_entries::key::entry;
+use file_entries::key::{only, table};
+use file_entries::{Faults, Place};
 use std::alloc::Global;
 use table_image::{Port, Version};
 use toml::Value;
@@ -22,33 +23,38 @@ pub(crate) struct Ports {
     pub(crate) router: usize,
 }
 
+#[tactic(auto, using(file_entries::proofs::Notes::noted_again))]
 impl Reader for Ports {
     type Entry = Port;
 
     ghost meaning = { λ r k d. port_of r.version r.cables r.mark r.router k d };
 
-    fn read_one(&self, alloc: Global, number: usize, value: &Value) -> Result<Option<Port>, Error> {
-        let Some(table) = entry(&["cable", "address", "hardware", "mapping"], value) else {
+    fn read_one(
+        &self,
+        alloc: Global,
+        place: &Place,
+        number: usize,
+        value: &Value,
+        faults: &mut Faults,
+    ) -> Result<Option<Port>, Error> {
+        let Some(table) = table(place, value, faults) else {
             return Ok(None);
         };
-        let Some(cable) = place_at(table, "cable", self.cables) else {
-            return Ok(None);
-        };
-        let Some(address) = address_at(table, "address") else {
-            return Ok(None);
-        };
+        let named = ["cable", "address", "hardware", "mapping"];
+        let only = only(&named, place, table, faults);
+        let cable = faults.take(place, "cable", place_at(table, "cable", self.cables));
+        let address = faults.take(place, "address", address_at(table, "address"));
         let other = made_up(self.mark, 0, self.router, number);
-        let Some(hardware) = hardware_or(table, "hardware", other) else {
-            return Ok(None);
-        };
-        match mappings_at(alloc, self.version, table)? {
-            Some(mappings) => Ok(Some(Port {
+        let hardware = faults.take(place, "hardware", hardware_or(table, "hardware", other));
+        let mappings = mappings_at(alloc, self.version, place, table, faults)?;
+        match (only, cable, address, hardware, mappings) {
+            (true, Some(cable), Some(address), Some(hardware), Some(mappings)) => Ok(Some(Port {
                 cable,
                 address,
                 hardware,
                 mappings,
             })),
-            None => Ok(None),
+            _ => Ok(None),
         }
     }
 }

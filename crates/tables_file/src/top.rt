@@ -1,46 +1,60 @@
 //! The top level of a file.
 
-ghost use Rattle.std.specs.Prelude.{◌≡◌};
+ghost use Rattle.std.specs.Prelude.{◌≡◌, ◌&&◌, is_some};
+ghost use Rattle.std.specs.Result.{result_ok};
 ghost use Rattle.toml.specs.View.{table_view};
+ghost use Rattle.at_base.specs.declared.error.Part.TheVariants.{Top};
 ghost use Rattle.file_entries.specs.Entries.{at_or};
+ghost use Rattle.file_entries.specs.Faults.{noted, spot};
 ghost use Rattle.file_entries.specs.Values as values_spec;
 ghost use Rattle.tables_file.specs.Files as spec;
 
-use at_base::{Error, Part};
-use file_entries::key::{get, has_only, is_listed};
+use at_base::Part;
+use file_entries::key::{get, is_listed, only};
 use file_entries::value::number;
+use file_entries::{Faults, Place, Why};
 use table_image::Version;
 use toml::Table;
 
-/// Whether the top level has only the keys of a file, and its tables are lists.
-fn is_top(table: &Table) -> bool
-    ensures { result ≡ spec.is_top (table_view table.now) }
+/// Whether the tables of a file are lists.
+#[tactic(auto, using(file_entries::proofs::Notes::noted_both))]
+fn are_listed(place: &Place, table: &Table, faults: &mut Faults) -> bool
+    ensures value { result ≡ spec.are_listed (table_view table.now) }
+    ensures told { faults.new ≡ noted (spot place.now) result faults.old }
 {
-    has_only(&["version", "cable", "router", "node"], table)
-        && is_listed(table, "cable")
-        && is_listed(table, "router")
-        && is_listed(table, "node")
+    let cable = is_listed(place, table, "cable", faults);
+    let router = is_listed(place, table, "router", faults);
+    let node = is_listed(place, table, "node", faults);
+    cable && router && node
 }
 
 /// The number of the version at the key, 1 where the table doesn't have the key.
-fn version_at(table: &Table, key: &str) -> Option<u32>
-    ensures { result ≡ at_or 1 key.now (values_spec.number 1 2) (table_view table.now) }
+fn version_at(table: &Table, key: &str) -> Result<u32, Why>
+    ensures { result_ok result ≡ at_or 1 key.now (values_spec.number 1 2) (table_view table.now) }
 {
     match get(table, key) {
         Some(value) => number(1, 2, value),
-        None => Some(1),
+        None => Ok(1),
     }
 }
 
-/// The version of the image. Error: `BadFile(Top, 0)` if the top level is invalid.
+/// The version of the image, or `None` if the top level is invalid.
 #[tactic(auto, unfolding(crate::specs::Files::version_in))]
-pub(crate) fn version(table: &Table) -> Result<Version, Error>
-    ensures { result ≡ spec.version_in (table_view table.now) }
+pub(crate) fn version(table: &Table, faults: &mut Faults) -> Option<Version>
+    ensures value { spec.version_or result ≡ spec.version_in (table_view table.now) }
+    ensures told { faults.new ≡ noted (Top, 0) (is_some result) faults.old }
 {
-    if is_top(table) {
-        if let Some(number) = version_at(table, "version") {
-            return Ok(Version::of(number as u8));
-        }
+    let place = Place::of(Part::Top, 0);
+    let only = only(
+        &["version", "cable", "router", "node"],
+        &place,
+        table,
+        faults,
+    );
+    let listed = are_listed(&place, table, faults);
+    let number = faults.take(&place, "version", version_at(table, "version"));
+    match (only, listed, number) {
+        (true, true, Some(number)) => Some(Version::of(number as u8)),
+        _ => None,
     }
-    Err(Error::BadFile(Part::Top, 0))
 }

@@ -1,6 +1,8 @@
 //! Zone lists of routers.
 
-ghost use Rattle.std.specs.Prelude.{◌≡◌, ◌++◌, IfOk, IsOkUnless, OnOk};
+ghost use Rattle.std.specs.Prelude.{◌≡◌, ◌++◌, ◌&&◌, Some, IfOk, IsOkUnless, OnOk, is_some};
+ghost use Rattle.text.specs.Words.{given};
+ghost use Rattle.file_entries.specs.Faults.{noted, spot};
 ghost use Rattle.toml.specs.View.{table_view, view};
 ghost use Rattle.tables_file.specs.Routers as spec;
 ghost use Rattle.tables_file.specs.Routers.{list_for, list_of, lists_from};
@@ -11,11 +13,31 @@ use crate::rising::rising;
 use at_base::limits::MAX_LISTS;
 use at_base::{Error, Name};
 use file_entries::entries::{Reader, few};
-use file_entries::key::{entry, get};
+use file_entries::key::{get, only, table};
 use file_entries::value::list;
+use file_entries::{Faults, Place, Rising};
 use std::alloc::Global;
 use table_image::{Cable, Listed, Version, ZoneList};
 use toml::{Table, Value};
+
+/// The zone list with these parts.
+fn list_with(
+    range: Option<(u16, u16)>,
+    complete: Option<bool>,
+    zones: Option<Listed<Name>>,
+) -> Option<ZoneList>
+    ensures value { result ≡ given range (λ r. given complete (λ c. given zones (λ z.
+        Some (record { start = r.0; end = r.1; complete = c; zones = z })))) }
+    ensures some { is_some result ≡ (is_some range && is_some complete && is_some zones) }
+{
+    let (start, end) = range?;
+    Some(ZoneList {
+        start,
+        end,
+        complete: complete?,
+        zones: zones?,
+    })
+}
 
 /// Reads zone lists of an image of this version.
 #[derive(Clone, Copy)]
@@ -23,6 +45,7 @@ struct ZoneLists {
     version: Version,
 }
 
+#[tactic(auto, using(file_entries::proofs::Notes::noted_again, file_entries::proofs::Notes::noted_both))]
 impl Reader for ZoneLists {
     type Entry = ZoneList;
 
@@ -31,27 +54,22 @@ impl Reader for ZoneLists {
     fn read_one(
         &self,
         alloc: Global,
+        place: &Place,
         _number: usize,
         value: &Value,
+        faults: &mut Faults,
     ) -> Result<Option<ZoneList>, Error> {
-        let Some(table) = entry(&["range", "complete", "zones"], value) else {
+        let Some(table) = table(place, value, faults) else {
             return Ok(None);
         };
-        let Some((start, end)) = ends_at(table, "range") else {
+        let only = only(&["range", "complete", "zones"], place, table, faults);
+        let range = faults.take(place, "range", ends_at(table, "range"));
+        let complete = faults.take(place, "complete", flag_or_true(table, "complete"));
+        let zones = zones_at(alloc, self.version, place, table, "zones", faults)?;
+        if !only {
             return Ok(None);
-        };
-        let Some(complete) = flag_or_true(table, "complete") else {
-            return Ok(None);
-        };
-        match zones_at(alloc, self.version, table, "zones")? {
-            Some(zones) => Ok(Some(ZoneList {
-                start,
-                end,
-                complete,
-                zones,
-            })),
-            None => Ok(None),
         }
+        Ok(list_with(range, complete, zones))
     }
 }
 
@@ -113,16 +131,30 @@ fn lists_of_cables(alloc: Global, cables: &[Cable]) -> Result<Listed<ZoneList>, 
 fn lists_in(
     alloc: Global,
     version: Version,
+    place: &Place,
     value: &Value,
+    faults: &mut Faults,
 ) -> Result<Option<Listed<ZoneList>>, Error>
     ensures read { IfOk result (λ x. x ≡ spec.listed version (view value.now)) }
+    ensures told { IfOk result (λ x. faults.new ≡ noted (spot place.now) (is_some x) faults.old) }
     ensures refused { IsOkUnless result Error.Memory }
 {
-    let Some(values) = list(value) else {
-        return Ok(None);
+    let values = match list(value) {
+        Ok(values) => values,
+        Err(why) => {
+            faults.note(place, why);
+            return Ok(None);
+        }
     };
-    match few(alloc, MAX_LISTS, &ZoneLists { version }, values)? {
-        Some(lists) => Ok(rising(lists)),
+    match few(
+        alloc,
+        MAX_LISTS,
+        &ZoneLists { version },
+        place,
+        values,
+        faults,
+    )? {
+        Some(lists) => Ok(rising(lists, place, Rising::Range, faults)),
         None => Ok(None),
     }
 }
@@ -133,13 +165,16 @@ pub(crate) fn lists_at(
     alloc: Global,
     version: Version,
     cables: &[Cable],
+    place: &Place,
     table: &Table,
+    faults: &mut Faults,
 ) -> Result<Option<Listed<ZoneList>>, Error>
     ensures read { IfOk result (λ x. x ≡ spec.lists version cables.now (table_view table.now)) }
+    ensures told { IfOk result (λ x. faults.new ≡ noted (spot place.now) (is_some x) faults.old) }
     ensures refused { IsOkUnless result Error.Memory }
 {
     match get(table, "list") {
-        Some(value) => lists_in(alloc, version, value),
+        Some(value) => lists_in(alloc, version, &place.at("list"), value, faults),
         None => Ok(Some(lists_of_cables(alloc, cables)?)),
     }
 }

@@ -7,9 +7,10 @@ ghost use Rattle.world.specs.Frozen as spec;
 
 use crate::world::World;
 use at_base::{Bytes, Error};
+use image_feed::read;
 use rtmp::RouteTable;
 use std::alloc::Global;
-use table_image::{Image, Version, read, write};
+use table_image::{Image, Version, write};
 
 /// The bytes of an image, and the image that is read from them: the same image. Error: `Memory`.
 fn read_back(alloc: Global, image: &Image) -> Result<(Bytes, Image), Error>

@@ -4,7 +4,8 @@ use super::EMPTY;
 use super::fakes::{Frail, Pieces};
 use super::plays::SMALL;
 use at_base::Error;
-use commands::{Input, capture_play, capture_run};
+use commands::{answer_of, capture_play, capture_run};
+use frozen_trace::Refusals;
 use playing::Silent;
 use std::alloc::Global;
 use text::Output;
@@ -39,19 +40,18 @@ fn frail(alloc: Global, fails_at: u32) -> Output<Frail> {
 fn play(alloc: Global, read: Option<u32>, lines_fail_at: u32, capture_fails_at: u32) -> Found {
     let mut text = Pieces::new(SMALL, 40);
     text.fails_at = read;
-    let mut input = Input::new(text);
     let mut lines = frail(alloc, lines_fail_at);
     let mut image = frail(alloc, NEVER);
     let mut capture = frail(alloc, capture_fails_at);
-    let answer = capture_play(
+    let answer = answer_of(&capture_play(
         alloc,
-        &mut input,
+        &mut text,
         &mut lines,
         &mut image,
         &mut capture,
         &mut Silent,
         None,
-    );
+    ));
     came_to(answer, lines.writer.calls, capture.writer.calls)
 }
 
@@ -60,11 +60,18 @@ fn play(alloc: Global, read: Option<u32>, lines_fail_at: u32, capture_fails_at: 
 fn trace(alloc: Global, read: Option<u32>, lines_fail_at: u32, capture_fails_at: u32) -> Found {
     let mut script = Pieces::new(b"drain 5\n", 7);
     script.fails_at = read;
-    let mut image = Input::new(Pieces::new(EMPTY, 3));
-    let mut script = Input::new(script);
+    let mut image = Pieces::new(EMPTY, 3);
     let mut lines = frail(alloc, lines_fail_at);
     let mut capture = frail(alloc, capture_fails_at);
-    let answer = capture_run(alloc, &mut image, &mut script, &mut lines, &mut capture);
+    let traced = capture_run(
+        alloc,
+        &mut image,
+        &mut script,
+        &mut lines,
+        &mut capture,
+        &mut Refusals::new(alloc),
+    );
+    let answer = answer_of(&traced);
     came_to(answer, lines.writer.calls, capture.writer.calls)
 }
 

@@ -45,21 +45,23 @@ impl Read for Pieces<'_> {
     }
 }
 
-/// A reader that returns as many bytes as fit: the bytes from index `next` up to `end`, each of
-/// which is the last byte of its index.
+/// A reader that returns as many bytes as fit: the printable characters of ASCII in turn, from index
+/// `next` up to `end`.
 #[derive(Clone, Copy)]
 pub struct Places {
     pub next: u32,
     pub end: u32,
+    pub reads: u32,
 }
 
 impl Read for Places {
     fn read(&mut self, buffer: &mut [u8]) -> io::Result<usize> {
+        self.reads = self.reads.saturating_add(1);
         for i in 0..buffer.len() {
             if self.next >= self.end {
                 return Ok(i);
             }
-            buffer[i] = (self.next % 256) as u8;
+            buffer[i] = (32 + self.next % 95) as u8;
             self.next += 1;
         }
         Ok(buffer.len())
@@ -89,11 +91,14 @@ impl Read for Endless<'_> {
 }
 
 /// A reader that is interrupted at each read.
-#[derive(Drop)]
-pub struct Restless;
+#[derive(Clone, Copy)]
+pub struct Restless {
+    pub reads: u32,
+}
 
 impl Read for Restless {
     fn read(&mut self, _buffer: &mut [u8]) -> io::Result<usize> {
+        self.reads = self.reads.saturating_add(1);
         Err(io::Error::from(ErrorKind::Interrupted))
     }
 }

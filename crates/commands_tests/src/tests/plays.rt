@@ -3,7 +3,7 @@
 use super::fakes::{Frail, Holding, Pieces};
 use super::holds;
 use at_base::Error;
-use commands::{Input, play_bytes};
+use commands::{answer_of, play_bytes};
 use playing::Silent;
 use std::alloc::Global;
 use std::io::Write;
@@ -47,17 +47,17 @@ fn play_once<W: Write + Drop, I: Write + Drop>(
     lines: W,
     image: I,
 ) -> Result<bool, Error> {
-    let mut input = Input::new(text);
+    let mut input = text;
     let mut output = Output::new(alloc, lines);
     let mut image = Output::new(alloc, image);
-    play_bytes(
+    answer_of(&play_bytes(
         alloc,
         &mut input,
         &mut output,
         &mut image,
         &mut Silent,
         None,
-    )
+    ))
 }
 
 /// As `play_once`, into buffers, with another call if an allocation failed.
@@ -80,17 +80,17 @@ fn pieces(text: &[u8]) -> Pieces<'_> {
 
 /// Whether the lines and the image of a play are flushed after their ends.
 fn flushes(alloc: Global) -> Result<bool, Error> {
-    let mut input = Input::new(pieces(EARLY));
+    let mut input = pieces(EARLY);
     let mut output = Output::new(alloc, Holding::new());
     let mut image = Output::new(alloc, Holding::new());
-    let answer = play_bytes(
+    let answer = answer_of(&play_bytes(
         alloc,
         &mut input,
         &mut output,
         &mut image,
         &mut Silent,
         None,
-    );
+    ));
     let flushed = output.writer.flushed() == NO && image.writer.flushed().len() == IMAGE_LEN;
     match answer {
         Ok(yes) => Ok(!yes && flushed),
@@ -157,7 +157,7 @@ fn every_write_may_fail(rt: HostRuntime) {
 /// Plays the small internet, whose lines can't be written. The results are the answer, and the
 /// number of calls of the image's writer.
 fn play_unwritten(alloc: Global) -> (Result<bool, Error>, u32) {
-    let mut input = Input::new(pieces(SMALL));
+    let mut input = pieces(SMALL);
     let lines = Frail {
         calls: 0,
         fails_at: 1,
@@ -168,14 +168,14 @@ fn play_unwritten(alloc: Global) -> (Result<bool, Error>, u32) {
     };
     let mut output = Output::new(alloc, lines);
     let mut image = Output::new(alloc, whole);
-    let answer = play_bytes(
+    let answer = answer_of(&play_bytes(
         alloc,
         &mut input,
         &mut output,
         &mut image,
         &mut Silent,
         None,
-    );
+    ));
     (answer, image.writer.calls)
 }
 

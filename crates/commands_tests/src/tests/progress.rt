@@ -1,7 +1,7 @@
 //! The reports of each tick of a play.
 
 use super::plays::{EARLY, SMALL};
-use playing::{Progress, play_text};
+use playing::{Progress, play, read_plan};
 use rtmp::Routes;
 use std::alloc::Global;
 use world::World;
@@ -28,7 +28,8 @@ fn ticks_of(alloc: Global, text: &[u8]) -> Option<u32> {
         ticks: 0,
         agrees: true,
     };
-    let played = play_text(alloc, text, &mut counting, None);
+    let plan = read_plan(alloc, text).ok()?;
+    let played = play(alloc, plan, &mut counting, None);
     if played.is_ok() && counting.agrees {
         Some(counting.ticks)
     } else {

@@ -1,54 +1,38 @@
-//! Inputs that are read once, again after a failed allocation, or near the limit of reads.
-
-ghost use Rattle.std.specs.Prelude.{◌≤◌};
-ghost use Rattle.commands.specs.declared.input.TheConstants.{READS};
+//! Texts that are read once, or again after a failed allocation.
 
 use at_base::Error;
-use commands::{Input, READS};
+use commands::read_text;
 use std::alloc::Global;
 use std::io::{ErrorKind, Read};
 
-/// The bytes that were read or the error, the number of reads, and whether and why a read failed.
+/// The bytes that were read or the error, the reader afterwards, and why a read failed.
 #[derive(Drop)]
-pub struct Reading {
+pub struct Reading<R> {
     pub answer: Result<Vec<u8>, Error>,
-    pub reads: u32,
-    pub failed: bool,
-    pub fault: Option<ErrorKind>,
+    pub reader: R,
+    pub reason: Option<ErrorKind>,
 }
 
-fn read_once<R: Read + Drop>(alloc: Global, reader: R) -> Reading {
-    let mut input = Input::new(reader);
-    let answer = input.read_all(alloc);
-    Reading {
-        answer,
-        reads: input.reads,
-        failed: input.faults > 0,
-        fault: input.fault,
+fn read_once<R: Read>(alloc: Global, mut reader: R, most: u32) -> Reading<R> {
+    match read_text(alloc, &mut reader, most) {
+        Ok(text) => Reading {
+            answer: Ok(text),
+            reader,
+            reason: None,
+        },
+        Err(refused) => Reading {
+            answer: Err(refused.error),
+            reader,
+            reason: refused.reason,
+        },
     }
 }
 
-/// Reads all bytes, with another attempt if an allocation failed.
-pub fn read_all<R: Read + Copy>(alloc: Global, reader: R) -> Reading {
-    let reading = read_once(alloc, reader);
+/// Reads all bytes in at most so many reads, with another attempt if an allocation failed.
+pub fn read_all<R: Read + Copy>(alloc: Global, reader: R, most: u32) -> Reading<R> {
+    let reading = read_once(alloc, reader, most);
     match reading.answer {
-        Err(Error::Memory) => read_once(alloc, reader),
+        Err(Error::Memory) => read_once(alloc, reader, most),
         _ => reading,
-    }
-}
-
-/// An input with `left` reads left.
-pub fn nearly_given_up<R>(reader: R, left: u32) -> Input<R>
-    requires { left ≤ READS }
-{
-    Input {
-        reader,
-        reads: READS - left,
-        faults: 0,
-        fault: None,
-        ended: None,
-        kept: None,
-        image: None,
-        flawed: None,
     }
 }

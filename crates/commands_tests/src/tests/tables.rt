@@ -4,7 +4,7 @@
 use super::fakes::{Frail, Holding, Pieces};
 use super::{EMPTY, holds};
 use at_base::{Cause, Error, Part};
-use commands::{Input, draw_image, make_bytes, show_image};
+use commands::{Refused, answer_of, draw_image, make_bytes, show_image};
 use std::alloc::{AllocError, Global};
 use std::io::Write;
 use text::Output;
@@ -31,14 +31,13 @@ range = [20]
 /// Makes the image of the reader's text, with these writers.
 fn make_once<W: Write + Drop, I: Write + Drop>(
     alloc: Global,
-    text: Pieces<'_>,
+    mut text: Pieces<'_>,
     lines: W,
     image: I,
 ) -> Result<bool, Error> {
-    let mut input = Input::new(text);
     let mut output = Output::new(alloc, lines);
     let mut image = Output::new(alloc, image);
-    make_bytes(alloc, &mut input, &mut output, &mut image)
+    answer_of(&make_bytes(alloc, &mut text, &mut output, &mut image))
 }
 
 /// As `make_once`, into buffers, with another call if an allocation failed.
@@ -134,7 +133,7 @@ fn every_write_of_what_is_made_may_fail(rt: HostRuntime) {
 /// Makes the small image, whose line can't be written. The results are the answer, and the number
 /// of calls of the image's writer.
 fn make_unwritten(alloc: Global) -> (Result<bool, Error>, u32) {
-    let mut input = Input::new(pieces(SMALL));
+    let mut input = pieces(SMALL);
     let lines = Frail {
         calls: 0,
         fails_at: 1,
@@ -145,7 +144,7 @@ fn make_unwritten(alloc: Global) -> (Result<bool, Error>, u32) {
     };
     let mut output = Output::new(alloc, lines);
     let mut image = Output::new(alloc, whole);
-    let answer = make_bytes(alloc, &mut input, &mut output, &mut image);
+    let answer = answer_of(&make_bytes(alloc, &mut input, &mut output, &mut image));
     (answer, image.writer.calls)
 }
 
@@ -158,10 +157,9 @@ fn no_byte_of_an_image_that_is_made_is_written_before_its_line(rt: HostRuntime) 
     assert_eq!(rt; made, (Err(Error::WriteFault), 0));
 }
 
-/// Makes the image of a text, and returns the answer, and whether `wanted` is what is kept, and
-/// whether the line and the image were flushed as they should be.
-fn keeps(alloc: Global, text: &[u8], wanted: &[u8]) -> (Result<bool, Error>, bool, bool) {
-    let mut input = Input::new(pieces(text));
+/// Makes the image of a text, and returns the answer, whether `wanted` was written as its image or
+/// is the text of the refusal, and whether the line and the image were flushed as they should be.
+fn makes(alloc: Global, text: &[u8], wanted: &[u8]) -> (Result<bool, Error>, bool, bool) {
     let mut output = Output::new(
         alloc,
         Frail {
@@ -170,29 +168,38 @@ fn keeps(alloc: Global, text: &[u8], wanted: &[u8]) -> (Result<bool, Error>, boo
         },
     );
     let mut image = Output::new(alloc, Holding::new());
-    let answer = make_bytes(alloc, &mut input, &mut output, &mut image);
-    let kept = match &input.kept {
-        Some(bytes) => bytes.as_slice() == wanted,
+    let made = make_bytes(alloc, &mut pieces(text), &mut output, &mut image);
+    let written = image.writer.flushed();
+    let calls = output.writer.calls;
+    match &made {
+        Ok(_) => (answer_of(&made), written == wanted, calls == 3),
+        Err(refused) => (
+            answer_of(&made),
+            is_text(refused, wanted),
+            written.is_empty() && calls == 0,
+        ),
+    }
+}
+
+/// Whether the refusal has this text.
+fn is_text(refused: &Refused, wanted: &[u8]) -> bool {
+    match &refused.file {
+        Some(file) => file.text.as_slice() == wanted,
         None => false,
-    };
-    let flushed = match answer {
-        Ok(_) => image.writer.flushed() == wanted && output.writer.calls == 3,
-        Err(_) => image.writer.flushed() == b"".as_slice() && output.writer.calls == 0,
-    };
-    (answer, kept, flushed)
+    }
 }
 
 #[test]
-fn the_image_is_kept_or_the_text_that_is_at_fault(rt: HostRuntime) {
+fn the_image_is_written_or_the_text_that_is_at_fault_returned(rt: HostRuntime) {
     let cases = [
         (SMALL, IMAGE, Ok(true)),
         (b"".as_slice(), EMPTY, Ok(true)),
         (AT_FAULT, AT_FAULT, Err(Error::BadFile(Part::Cable, 2))),
     ];
     for (text, wanted, answer) in cases {
-        let mut made = keeps(rt.alloc(), text, wanted);
+        let mut made = makes(rt.alloc(), text, wanted);
         if made.0 == Err(Error::Memory) {
-            made = keeps(rt.alloc(), text, wanted);
+            made = makes(rt.alloc(), text, wanted);
         }
         assert_eq!(rt; made, (answer, true, true));
     }
@@ -211,14 +218,17 @@ enum Printed {
 fn print_once<W: Write + Drop>(
     alloc: Global,
     printed: Printed,
-    image: Pieces<'_>,
+    mut image: Pieces<'_>,
     writer: W,
 ) -> Result<(), Error> {
-    let mut input = Input::new(image);
     let mut output = Output::new(alloc, writer);
+    let printed = match printed {
+        Printed::Tables => show_image(alloc, &mut image, &mut output),
+        Printed::Drawing(to) => draw_image(alloc, &mut image, &mut output, to),
+    };
     match printed {
-        Printed::Tables => show_image(alloc, &mut input, &mut output),
-        Printed::Drawing(to) => draw_image(alloc, &mut input, &mut output, to),
+        Ok(()) => Ok(()),
+        Err(refused) => Err(refused.error),
     }
 }
 

@@ -3,7 +3,8 @@
 use super::fakes::{Frail, Pieces};
 use super::{EMPTY, holds};
 use at_base::Error;
-use commands::{Input, run_frozen};
+use commands::{answer_of, run_frozen};
+use frozen_trace::Refusals;
 use std::alloc::Global;
 use std::io::Write;
 use text::Output;
@@ -11,14 +12,13 @@ use text::Output;
 /// Runs the script over the image, and writes the trace to the writer.
 fn trace_once<W: Write + Drop>(
     alloc: Global,
-    image: Pieces<'_>,
-    script: Pieces<'_>,
+    mut image: Pieces<'_>,
+    mut script: Pieces<'_>,
     writer: W,
 ) -> Result<bool, Error> {
-    let mut image = Input::new(image);
-    let mut script = Input::new(script);
     let mut output = Output::new(alloc, writer);
-    run_frozen(alloc, &mut image, &mut script, &mut output)
+    let mut refusals = Refusals::new(alloc);
+    answer_of(&run_frozen(alloc, &mut image, &mut script, &mut output, &mut refusals))
 }
 
 /// As `trace_once`, into `room`, with another call if an allocation failed.

@@ -3,10 +3,10 @@
 use at_base::Error;
 use audit::audit;
 use drawing::print_drawing;
+use image_feed::read;
 use std::alloc::Global;
 use std::io::Write;
 use std::test::*;
-use table_image::read;
 use text::Output;
 
 /// Writes the drawing of an image, with the way of datagrams to a network if there is one.

@@ -7,7 +7,10 @@ use std::test::*;
 
 /// How many datagrams the nodes of a file send.
 fn datagrams(alloc: Global, text: &[u8]) -> Result<usize, Error> {
-    let plan = read(alloc, text)?;
+    let plan = match read(alloc, text) {
+        Ok(plan) => plan,
+        Err(refused) => return Err(refused.error),
+    };
     let mut sent = 0usize;
     for action in plan.actions() {
         if let Do::Send { .. } = &action.action {

@@ -2,9 +2,10 @@
 
 use super::three_cables::IMAGE;
 use at_base::Error;
+use image_feed::read;
 use std::alloc::Global;
 use std::test::*;
-use table_image::{Row, read};
+use table_image::Row;
 
 /// A row as a line: its networks, its distance, and its next router, if it has one.
 fn line_of(alloc: Global, row: &Row) -> Result<String, Error> {

@@ -8,7 +8,10 @@ use tables_file::read;
 
 /// The verdict line on the tables that a text says.
 fn verdict(alloc: Global, text: &[u8]) -> Result<String, Error> {
-    let image = read(alloc, text)?;
+    let image = match read(alloc, text) {
+        Ok(image) => image,
+        Err(refused) => return Err(refused.error),
+    };
     audit(&image).line(alloc)
 }
 

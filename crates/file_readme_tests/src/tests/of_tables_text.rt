@@ -2,10 +2,10 @@
 
 use super::three_cables::IMAGE;
 use at_base::{Cause, Error};
+use image_feed::read;
 use std::alloc::Global;
 use std::io::Write;
 use std::test::*;
-use table_image::read;
 use tables_text::print_tables;
 use text::Output;
 

@@ -37,7 +37,7 @@ const SEAT: cable_model::Seat = cable_model::Seat {
 
 /// The lines of a frame from the node to itself, which is lost.
 fn lines_of_a_loss(alloc: Global) -> Result<Vec<u8>, Error> {
-    let image = table_image::read(alloc, IMAGE.as_slice())?;
+    let image = image_feed::read(alloc, IMAGE.as_slice())?;
     let mut cables = Cables::new(alloc, &[SEAT], 2, Rooms::KNOWN)?;
     let bytes = Bytes::copy(alloc, &[0x0A, 0xF0])?;
     cables.put(0, 2, SEAT.hw, cable_model::Kind::Aarp, bytes)?;

@@ -1,9 +1,10 @@
 use Rattle.std.proofs.Common.{◌≡◌, ◌⊎◌, ◌≤◌, List, [], ◌∷◌, Option, length, map, inl, inr, ap, ap₂, subst, sym, ◌∙◌, rules}
 use Rattle.std.proofs.lemmas.List.{length-map}
-use Rattle.clap.specs.Words.{App, Row, Text, IsAmong, Kinds, is_simple, is_simple_and_free, subcommand_of, takes, fault_of}
+use Rattle.std.proofs.lemmas.Result.{err_from_is_err_and}
+use Rattle.clap.specs.Words.{App, HasKind, Row, Text, IsAmong, Kinds, is_simple, is_simple_and_free, subcommand_of, takes, fault_of}
 use Rattle.clap.specs.declared.error.ErrorKind.{ErrorKind}
 use Rattle.clap.specs.declared.error.ErrorKind.TheVariants.{OutOfMemory}
-use Rattle.command_line.specs.Arguments.{IsMeant, atalk_app}
+use Rattle.command_line.specs.Arguments.{IsMeant, IsRequest, atalk_app}
 use Rattle.command_line.proofs.CommandLine.{simple, simple_and_free, none_entered, none_taken}
 use Rattle.command_line.proofs.Forms.{about_asked, form_meant, form_taken}
 use Rattle.command_line.proofs.arguments.read_arguments.Goals as goal
@@ -33,7 +34,7 @@ pub returns-clause-alone : goal.returns-clause-alone
 returns-clause-alone g c = λ short.
     let texts = map g.S.AsStr.text c.args.arguments.now in
     let app = c.in_ok-atalk_command.ensures in
-    c.job_of.ensures.none ((c.in_ok-matches.ensures.matches (ap is_simple app ∙ simple)).1
+    c.request_of.ensures.none ((c.in_ok-matches.ensures.matches (ap is_simple app ∙ simple)).1
     ∙ ap (λ (a : App). subcommand_of a texts) app ∙ none_entered texts (short_map g.S.AsStr.text c.args.arguments.now short))
 
 pub returns-clause-meant : goal.returns-clause-meant
@@ -41,13 +42,16 @@ returns-clause-meant g c =
     let texts = map g.S.AsStr.text c.args.arguments.now in
     let app = c.in_ok-atalk_command.ensures in
     let met = (c.in_ok-matches.ensures.matches (ap is_simple app ∙ simple)).1 ∙ ap (λ (a : App). subcommand_of a texts) app in
-    subst (λ (rows : Option (Text × List Row)). IsMeant rows c.job_of.result) met c.job_of.ensures.meant
+    subst (λ (rows : Option (Text × List Row)). IsRequest rows c.request_of.result) met c.request_of.ensures.meant
 
 pub returns-in_err-matches-clause-kinds : goal.returns-in_err-matches-clause-kinds
 returns-in_err-matches-clause-kinds g c =
     let app = c.in_ok-atalk_command.ensures in
-    let kinds = rw app at (c.in_err-matches.ensures.kinds (ap is_simple_and_free app ∙ simple_and_free)) in
-    search rules
+    let texts = map g.S.AsStr.text c.args.arguments.now in
+    let kinds = subst (λ (a : App). HasKind (fault_of a texts) c.in_err-matches.field-0.0) app
+    (c.in_err-matches.ensures.kinds (ap is_simple_and_free app ∙ simple_and_free)) in
+    let stop = err_from_is_err_and c.from_residual-in_err-matches.result c.from_residual-in_err-matches.ensures.1 in
+    rw (stop.1, stop.2) kinds
 
 pub returns-clause-kinds : goal.returns-clause-kinds
 returns-clause-kinds g c =
@@ -70,8 +74,8 @@ pub returns-clause-written : goal.returns-clause-written
 returns-clause-written g c = λ name form named operands.
     let app = c.in_ok-atalk_command.ensures in
     let met = (c.in_ok-matches.ensures.matches (ap is_simple app ∙ simple)).1 ∙ ap₂ subcommand_of app named in
-    form_meant form name c.job_of.result operands
-    (subst (λ (rows : Option (Text × List Row)). IsMeant rows c.job_of.result) met c.job_of.ensures.meant)
+    form_meant form name c.request_of.result.job operands
+    (subst (λ (rows : Option (Text × List Row)). IsMeant rows c.request_of.result.job) met c.request_of.ensures.meant.0)
 
 pub returns-in_err-matches-clause-about : goal.returns-in_err-matches-clause-about
 returns-in_err-matches-clause-about g c = λ name about named.

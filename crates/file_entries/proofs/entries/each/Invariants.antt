@@ -6,6 +6,7 @@ use Rattle.file_entries.proofs.entries.each.Given as goal
 
 abbrev pub invariant-loop-value : goal.invariant-loop-value
 invariant-loop-value g l =
-    each (g.R.Reader.meaning l.reader) (map view l.values)
-    ≡ with_front l.entries.items
-    (each_from (length l.entries.items + 1) (g.R.Reader.meaning l.reader) (map view (drop l.value-index l.values)))
+    (each (g.R.Reader.meaning l.reader) (map view l.values)
+    ≡ with_front l.items.items
+    (each_from (length l.items.items + 1) (g.R.Reader.meaning l.reader) (map view (drop l.value-index l.values))))
+    × (l.value-index ≡ length l.items.items) × (l.faults ≡ l.initial.faults)

@@ -7,12 +7,12 @@ use Rattle.image_feed.proofs.head.read_head.Goals as goal
 pub returns-in-Ok : goal.returns-in-Ok
 returns-in-Ok g c =
     let none : c.args.head.now ≡ None = none_of c.args.head.now (sym c.is_some.ensures ∙ c.if-is_some.false) in
-    let lead = leads_read (g.H.Item.spelling c.args.context c.args.low) c.args.bytes.now c.in-Ok.found c.in-Ok.rest.now (c.in-Ok.ensures {u = tt}) in
+    let lead = leads_read (g.H.Head.spelling c.args.context c.args.low) c.args.bytes.now c.in-Ok.found c.in-Ok.rest.now (c.in-Ok.ensures {u = tt}) in
     (λ more. rw none (lead more), inl refl)
 
 pub returns-in-Err : goal.returns-in-Err
 returns-in-Err g c =
-    let spelling = g.H.Item.spelling c.args.context c.args.low in
+    let spelling = g.H.Head.spelling c.args.context c.args.low in
     let none : c.args.head.now ≡ None = none_of c.args.head.now (sym c.is_some.ensures ∙ c.if-is_some.false) in
     advances_stop {X = Bor (List ℕ)} (λ rest. rest.now) (head_on spelling c.args.head.now) c.args.bytes.now c.in-Err.fault (is_some c.args.head.now)
     c.unless_cut.result c.unless_cut.ensures.waits c.unless_cut.ensures.refused

@@ -44,10 +44,10 @@ returns-in-Ok-clause-waits c = λ all h f first. all_cut (new c) (all ++ c.args.
 
 -- ---- a piece that was refused
 
-abbrev before : goal.After-self-in-Err-1 → Fed
+abbrev before : goal.After-self-in-Err-2-1 → Fed
 before c = record { tables = c.self.inside.tables; kept = c.self.inside.kept.items; fed = c.self.inside.fed; refused = c.self.inside.refused }
 
-refused : (c : goal.After-self-in-Err-1) (all : List ℕ) → HasRead (before c) all → IsRefused c.error_of-error.result (all ++ c.args.piece.now)
+refused : (c : goal.After-self-in-Err-2-1) (all : List ℕ) → HasRead (before c) all → IsRefused c.error_of-error.result (all ++ c.args.piece.now)
 refused c all h =
     let g : GoesOn (before c) all = open_on (before c) all c.in_default.is h.stands in
     let fits = bytes_append all c.args.piece.now h.bytes (λ i. omega (arith, c.type_inv.piece i)) in
@@ -60,7 +60,7 @@ refused c all h =
     refused_stop (before c) all c.args.piece.now c.in-Err.stop c.error_of-error.result fits g (c.in-Err.ensures {u = tt}).stops
     c.error_of-error.ensures.memory told
 
-abbrev after : goal.After-self-in-Err-1 → Fed
+abbrev after : goal.After-self-in-Err-2-1 → Fed
 after c = record {
   tables = c.read_piece.new.tables;
   kept = c.read_piece.new.kept.items;
@@ -68,7 +68,7 @@ after c = record {
   refused = Some c.error_of-error.result;
 }
 
-has_refused : (c : goal.After-self-in-Err-1) (all : List ℕ) → HasRead (before c) all → HasRead (after c) (all ++ c.args.piece.now)
+has_refused : (c : goal.After-self-in-Err-2-1) (all : List ℕ) → HasRead (before c) all → HasRead (after c) (all ++ c.args.piece.now)
 has_refused c all h = record {
   bytes = bytes_append all c.args.piece.now h.bytes (λ i. omega (arith, c.type_inv.piece i));
   stands = refused c all h;

@@ -1,6 +1,0 @@
-use Rattle.internet_file.specs.Files.{losses_in}
-use Rattle.internet_file.proofs.parts.read_losses.Goals as goal
-
-pub returns-in-Err-clause-refused : goal.returns-in-Err-clause-refused
-unfolding losses_in
-returns-in-Err-clause-refused c = rw (← c.entries_at.ensures) c.in-Err.ensures.refused
