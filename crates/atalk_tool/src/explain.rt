@@ -3,17 +3,18 @@
 
 ghost use Rattle.std.specs.Prelude.{◌≡◌, IfErr, None, Some};
 
+use crate::keeping::bytes_of;
 use crate::outputs::Missed;
 use at_base::Error;
 use audit::Verdict;
 use command_line::{Outcome, Source};
 use commands::{Answer, AtFault, Judged, Refused};
 use file_advice::Format;
-use image_advice::{explain_flaw, explain_kind, explain_no, explain_yes};
+use image_advice::{explain_flaw, explain_kind, explain_no, write_yes};
 use reply_advice::Replies;
 use std::alloc::{AllocError, Global};
 use std::io;
-use std::io::ErrorKind;
+use std::io::{ErrorKind, Write};
 
 /// Facts about a run of the program besides its outcome.
 #[derive(Drop)]
@@ -32,6 +33,8 @@ pub struct Evidence<'a> {
     pub undone: Option<Vec<u8>>,
     /// The replies that were received, if they are to be explained.
     pub replies: Option<Replies>,
+    /// What is said of the questions that nobody answered.
+    pub unanswered: Option<Vec<u8>>,
     /// The text of the script, or the part of it that was read.
     pub script: Option<Vec<u8>>,
 }
@@ -51,6 +54,7 @@ impl<'a> Evidence<'a> {
             format: Format::Internet,
             undone: None,
             replies: None,
+            unanswered: None,
             script: None,
         }
     }
@@ -110,6 +114,11 @@ fn explain_outcome(
     }
 }
 
+/// The lines of a text, without their ends.
+pub fn lines_in(text: &[u8]) -> std::str::Lines<'_> {
+    str::from_utf8(text).unwrap_or("").lines()
+}
+
 /// Prints lines that are text.
 fn print_lines(rt: &impl Eprint, lines: &[u8]) -> io::Result<()> {
     match str::from_utf8(lines) {
@@ -118,33 +127,58 @@ fn print_lines(rt: &impl Eprint, lines: &[u8]) -> io::Result<()> {
     }
 }
 
-/// Says in words which actions or steps were refused, and which replies were received.
+/// Says in words which actions or steps were refused, which replies were received, and which
+/// questions nobody answered.
 fn explain_run(rt: &(impl Eprint + AllocGlobal), evidence: &Evidence<'_>) -> io::Result<()> {
     if let Some(undone) = &evidence.undone {
         print_lines(rt, undone.as_slice())?;
     }
-    let Some(replies) = &evidence.replies else {
-        return Ok(());
-    };
-    let mut text = Vec::new(rt.alloc());
-    replies.write(&mut text)?;
-    print_lines(rt, text.as_slice())
+    if let Some(replies) = &evidence.replies {
+        let mut text = Vec::new(rt.alloc());
+        replies.write(&mut text)?;
+        print_lines(rt, text.as_slice())?;
+    }
+    match &evidence.unanswered {
+        Some(lines) => print_lines(rt, lines.as_slice()),
+        None => Ok(()),
+    }
+}
+
+/// What a yes doesn't cover, a line for each: nothing of a no.
+pub fn notes_of(alloc: Global, evidence: &Evidence<'_>) -> io::Result<Vec<u8>> {
+    let mut notes = Vec::new(alloc);
+    match &evidence.judged {
+        Some(
+            Judged {
+                image,
+                verdict: Verdict::Yes(_),
+            },
+        ) => write_yes(&mut notes, image)?,
+        _ => {}
+    }
+    Ok(notes)
 }
 
 /// Explains a no, or what a yes doesn't cover.
-fn explain_answer(rt: &impl Eprint, evidence: &Evidence<'_>) -> io::Result<()> {
-    let Some(Judged { image, verdict }) = &evidence.judged else {
+fn explain_answer(rt: &(impl Eprint + AllocGlobal), evidence: &Evidence<'_>) -> io::Result<()> {
+    let notes = notes_of(rt.alloc(), evidence)?;
+    for note in lines_in(notes.as_slice()) {
+        eprintln!(rt; "  {note}")?;
+    }
+    let Some(
+        Judged {
+            image,
+            verdict: Verdict::No(fault),
+        },
+    ) = &evidence.judged
+    else {
         return Ok(());
-    };
-    let fault = match verdict {
-        Verdict::Yes(_) => return explain_yes(rt, image),
-        Verdict::No(fault) => *fault,
     };
     if let Format::Tables = evidence.format {
         // What was written down may be wrong where the router is right.
         eprintln!(rt; "Compare the place that is named here with your notes first.")?;
     }
-    explain_no(rt, image, fault)
+    explain_no(rt, image, *fault)
 }
 
 /// The name of a source, as it is told.
@@ -165,33 +199,34 @@ fn explain_source(rt: &impl Eprint, evidence: &Evidence<'_>) -> io::Result<()> {
     }
 }
 
-/// Explains the faults of an internet file or a tables file.
-fn explain_file(
-    rt: &(impl Eprint + AllocGlobal),
-    file: &AtFault,
+/// Writes what is wrong with a text that was refused: the faults of an internet file or a tables file,
+/// or the bad line of a script; nothing of another input.
+pub fn write_refused<W: Write>(
+    alloc: Global,
+    writer: &mut W,
     evidence: &Evidence<'_>,
 ) -> io::Result<()> {
-    match evidence.source {
-        Some(Source::File(path)) => eprint!(rt; "atalk: {path:?}: ")?,
-        _ => eprint!(rt; "atalk: standard input: ")?,
-    }
-    file_advice::explain(rt, evidence.format, file.text.as_slice(), &file.refused)
-}
-
-/// Explains the bad line of a script.
-fn explain_script(
-    rt: &(impl Eprint + AllocGlobal),
-    line: u32,
-    evidence: &Evidence<'_>,
-) -> io::Result<()> {
-    let alloc = rt.alloc();
-    let mut words = Vec::new(alloc);
-    let text = match &evidence.script {
-        Some(text) => text.as_slice(),
-        None => &[],
+    let Some(refused) = &evidence.refused else {
+        return Ok(());
     };
     let name = name_of(alloc, evidence.source)?;
-    script_advice::write_bad_line(alloc, &mut words, name.as_str(), text, line)?;
+    match (refused.error, &refused.file) {
+        (Error::BadScript(line), _) => {
+            let text = bytes_of(&evidence.script).unwrap_or(&[]);
+            script_advice::write_bad_line(alloc, writer, name.as_str(), text, line)
+        }
+        (Error::BadFile(_, _), Some(AtFault { refused, text })) => {
+            write!(writer, "atalk: {name}: ")?;
+            file_advice::write(alloc, writer, evidence.format, text.as_slice(), refused)
+        }
+        _ => Ok(()),
+    }
+}
+
+/// Explains what is wrong with a text.
+fn explain_text(rt: &(impl Eprint + AllocGlobal), evidence: &Evidence<'_>) -> io::Result<()> {
+    let mut words = Vec::new(rt.alloc());
+    write_refused(rt.alloc(), &mut words, evidence)?;
     print_lines(rt, words.as_slice())
 }
 
@@ -201,21 +236,19 @@ fn explain_refused(
     refused: &Refused,
     evidence: &Evidence<'_>,
 ) -> io::Result<()> {
-    match (refused.error, &refused.file) {
-        (Error::BadImage(place, cause), _) => {
+    match refused.error {
+        Error::BadImage(place, cause) => {
             explain_source(rt, evidence)?;
             explain_flaw(rt, place, cause, refused.flawed)
         }
-        (Error::ReadFault, _) => {
+        Error::ReadFault => {
             explain_source(rt, evidence)?;
             match refused.reason {
                 Some(kind) => eprintln!(rt; "cannot be read: {}", explain_kind(kind)),
                 None => eprintln!(rt; "did not end after {} reads", refused.reads),
             }
         }
-        (Error::BadScript(line), _) => explain_script(rt, line, evidence),
-        (Error::BadFile(_, _), Some(file)) => explain_file(rt, file, evidence),
-        _ => Ok(()),
+        _ => explain_text(rt, evidence),
     }
 }
 

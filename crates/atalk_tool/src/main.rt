@@ -6,8 +6,10 @@
 mod explain;
 mod files;
 mod keeping;
+mod objects;
 mod outputs;
 mod performed;
+mod printing;
 mod run;
 mod run_play;
 mod run_tables;

@@ -6,14 +6,16 @@ ghost use Rattle.command_line.specs.Exits.{exit_at};
 
 use crate::explain::{Evidence, explain, prompt};
 use crate::files::check_files;
-use crate::outputs::{Outputs, Wanted};
+use crate::objects::print_objects;
+use crate::outputs::Wanted;
 use crate::performed::Performed;
+use crate::printing::Printing;
 use crate::run_play::{PlayJob, play_source};
 use crate::run_tables::{MakeJob, Printed, draw_source, make_source, print_source};
 use crate::run_trace::{Sources, trace_sources};
-use crate::telling::{Printing, Telling, Terminals};
+use crate::telling::{Lines, Telling, Terminals};
 use clap::error::ErrorKind as ParseError;
-use command_line::{Job, Outcome, Source, exit_of, read_arguments};
+use command_line::{Job, Outcome, Request, Source, exit_of, read_arguments};
 use commands::{answer_of, audit_file};
 use std::fs::File;
 use std::io;
@@ -26,39 +28,84 @@ fn given_arguments<R: Env + AllocGlobal>(rt: &R) -> io::Result<Vec<String>> {
     Ok(std::env::args(rt)?.collect(rt.alloc())?)
 }
 
+/// An image that is audited.
+#[derive(Clone, Copy)]
+struct Audited<'a> {
+    source: Source<'a>,
+    /// Its name, if it is one of several.
+    name: Option<&'a str>,
+}
+
 /// Audits the image that the reader has, and prints the line on standard output.
 fn audit_reader<'a, R: Print + AllocGlobal, S: Read + Drop>(
     rt: &R,
-    source: Source<'a>,
+    it: Audited<'a>,
     mut reader: S,
     telling: Telling,
 ) -> Performed<'a> {
-    let mut output = Output::new(rt.alloc(), Printing::new(rt, telling));
+    let mut output = Output::new(rt.alloc(), Printing::named(rt, telling, it.name));
     let audited = audit_file(rt.alloc(), &mut reader, &mut output);
     Performed {
         outcome: Outcome::Answered(answer_of(&audited)),
-        evidence: Evidence::of_worked(source, audited),
+        evidence: Evidence::of_worked(it.source, audited),
     }
 }
 
 /// Audits the image of the source. If it is read from a terminal, a prompt is printed there.
 fn audit_source<'a, R: Files + Input + Print + Eprint + AllocGlobal>(
     rt: &R,
-    source: Source<'a>,
+    it: Audited<'a>,
     telling: Telling,
 ) -> Performed<'a> {
-    match source {
+    match it.source {
         Source::StandardInput => {
             if telling.prompts {
                 prompt(rt, "an image");
             }
-            audit_reader(rt, source, rt.reader(), telling)
+            audit_reader(rt, it, rt.reader(), telling)
         }
         Source::File(path) => match File::open(rt, path) {
-            Ok(file) => audit_reader(rt, source, file, telling),
-            Err(error) => Performed::not_opened(source, error.kind()),
+            Ok(file) => audit_reader(rt, it, file, telling),
+            Err(error) => Performed::not_opened(it.source, error.kind()),
         },
     }
+}
+
+/// The name of a source, as the command line has it.
+fn word_of<'a>(source: Source<'a>) -> &'a str {
+    match source {
+        Source::StandardInput => "-",
+        Source::File(path) => path,
+    }
+}
+
+/// Audits one of several images, and returns the exit status.
+fn audit_one<R: Files + Input + Print + Eprint + AllocGlobal>(
+    rt: &R,
+    source: Source<'_>,
+    telling: Telling,
+) -> u8 {
+    let name = word_of(source);
+    let it = Audited {
+        source,
+        name: Some(name),
+    };
+    answer(rt, &audit_source(rt, it, telling), Some(name), telling)
+}
+
+/// Audits images, each as the only one would be, but that each line begins with the name of its
+/// image. Returns the worst of the exit statuses.
+fn audit_several<R: Files + Input + Print + Eprint + AllocGlobal>(
+    rt: &R,
+    first: Source<'_>,
+    further: &[Source<'_>],
+    telling: Telling,
+) -> u8 {
+    let mut worst = audit_one(rt, first, telling);
+    for source in further {
+        worst = worst.max(audit_one(rt, *source, telling));
+    }
+    worst
 }
 
 /// Prints help, the version, or a usage error.
@@ -72,23 +119,37 @@ fn print_answer<'a>(rt: &(impl Print + Eprint), error: &clap::Error) -> Performe
     Performed::without_source(Outcome::NoJob(kind, printed))
 }
 
-/// Prints the number of an error on standard error, and returns the exit status.
-fn finish(rt: &impl Eprint, outcome: &Outcome) -> u8
+/// Prints the number of an error on standard error, and returns the exit status. Of one of several
+/// inputs, its name stands before the number.
+fn finish(rt: &impl Eprint, outcome: &Outcome, name: Option<&str>) -> u8
     ensures { result ≡ (exit_at outcome.now).status }
 {
     let exit = exit_of(outcome);
     if let Some(number) = exit.refusal {
         // If standard error is closed too, there is only the status.
-        let _ = eprintln!(rt; "refused: {number}");
+        let _ = match name {
+            Some(name) => eprintln!(rt; "{name}: refused: {number}"),
+            None => eprintln!(rt; "refused: {number}"),
+        };
     }
     exit.status
 }
 
-/// Prints the number of an error and its explanation for a person, and returns the exit status.
-fn answer(rt: &(impl Eprint + AllocGlobal), performed: &Performed<'_>, telling: Telling) -> u8
+/// Prints what is told after a command, and returns the exit status: the number of an error, on
+/// standard error; the objects of a refusal and of notes, if objects are printed; and an explanation
+/// for a person.
+fn answer<R: Print + Eprint + AllocGlobal>(
+    rt: &R,
+    performed: &Performed<'_>,
+    name: Option<&str>,
+    telling: Telling,
+) -> u8
     ensures { result ≡ (exit_at performed.now.outcome).status }
 {
-    let status = finish(rt, &performed.outcome);
+    let status = finish(rt, &performed.outcome, name);
+    if telling.lines == Lines::Json {
+        print_objects(rt, performed, name);
+    }
     if telling.explains {
         explain(rt, &performed.outcome, &performed.evidence);
     }
@@ -112,7 +173,7 @@ fn perform<'a, R: Files + Input + Print + Eprint + AllocGlobal>(
     telling: Telling,
 ) -> Performed<'a> {
     match job {
-        Job::Audit(source) => audit_source(rt, source, telling),
+        Job::Audit(source) => audit_source(rt, Audited { source, name: None }, telling),
         Job::Trace(image, script, capture) => {
             let wanted = Wanted {
                 image: None,
@@ -154,15 +215,28 @@ fn run_arguments<R: Env + Files + Input + Print + Eprint + AllocGlobal>(
 ) -> u8 {
     let request = match read_arguments(rt.alloc(), arguments) {
         Ok(request) => request,
-        Err(error) => return answer(rt, &print_answer(rt, &error), terminals.telling()),
+        Err(error) => return answer(rt, &print_answer(rt, &error), None, terminals.telling()),
     };
-    let telling = match Telling::of(rt, &request, terminals) {
-        Ok(telling) => telling,
-        Err(refused) => return answer(rt, &refused, terminals.telling()),
-    };
-    match check_files(rt, &request.job) {
-        Ok(()) => answer(rt, &perform(rt, request.job, telling), telling),
-        Err(refused) => answer(rt, &refused, telling),
+    match Telling::of(rt, &request, terminals) {
+        Ok(telling) => run_request(rt, &request, telling),
+        Err(refused) => answer(rt, &refused, None, terminals.telling()),
+    }
+}
+
+/// Performs the job of a request, and returns the exit status.
+fn run_request<R: Files + Input + Print + Eprint + AllocGlobal>(
+    rt: &R,
+    request: &Request<'_>,
+    telling: Telling,
+) -> u8 {
+    if let Err(refused) = check_files(rt, &request.job) {
+        return answer(rt, &refused, None, telling);
+    }
+    match (request.job, request.further.as_slice()) {
+        (Job::Audit(first), further) if !further.is_empty() => {
+            audit_several(rt, first, further, telling)
+        }
+        (job, _) => answer(rt, &perform(rt, job, telling), None, telling),
     }
 }
 
@@ -173,6 +247,11 @@ pub fn run<R: Env + Files + Input + Print + Eprint + AllocGlobal>(
 ) -> u8 {
     match given_arguments(rt) {
         Ok(arguments) => run_arguments(rt, arguments.as_slice(), terminals),
-        Err(error) => answer(rt, &refuse_arguments(rt, error.kind()), terminals.telling()),
+        Err(error) => answer(
+            rt,
+            &refuse_arguments(rt, error.kind()),
+            None,
+            terminals.telling(),
+        ),
     }
 }

@@ -4,7 +4,8 @@ use crate::explain::{Evidence, name_of, prompt};
 use crate::keeping::{Keeping, bytes_of};
 use crate::outputs::{Outputs, Wanted};
 use crate::performed::Performed;
-use crate::telling::{Printing, Telling};
+use crate::printing::Printing;
+use crate::telling::Telling;
 use crate::watching::Watching;
 use at_base::Fault;
 use audit::Verdict;
@@ -12,7 +13,7 @@ use command_line::{Outcome, Source};
 use commands::{Refused, answer_of, capture_play, play_bytes};
 use file_advice::{write_other_zones, write_shared_tries, write_undone};
 use playing::Played;
-use reply_advice::Replies;
+use reply_advice::{Replies, Unanswered};
 use std::fs::File;
 use std::io;
 use std::io::{Read, Write};
@@ -69,9 +70,27 @@ fn told_of(
     telling: Telling,
 ) -> Option<Vec<u8>> {
     match played {
-        Ok(it) if telling.explains => {
+        Ok(it) if telling.notes() => {
             let mut words = Vec::new(rt.alloc());
             write_told(rt, &mut words, job, it, text).ok()?;
+            Some(words)
+        }
+        _ => None,
+    }
+}
+
+/// What is said of the questions that nobody answered, if that is to be told: nothing where memory
+/// runs out.
+fn unanswered_of(
+    rt: &impl AllocGlobal,
+    played: &Result<Played, Refused>,
+    telling: Telling,
+) -> Option<Vec<u8>> {
+    match played {
+        Ok(it) if telling.notes() => {
+            let unanswered = Unanswered::of_world(rt.alloc(), &it.world, &it.image);
+            let mut words = Vec::new(rt.alloc());
+            unanswered.write(&mut words, &it.image).ok()?;
             Some(words)
         }
         _ => None,
@@ -115,7 +134,7 @@ fn play_reader<'a, R: Files + Print + Eprint + AllocGlobal, S: Read + Drop>(
     mut outputs: Outputs<'_, R>,
     telling: Telling,
 ) -> Performed<'a> {
-    let mut reader = Keeping::new(rt.alloc(), reader, telling.explains);
+    let mut reader = Keeping::new(rt.alloc(), reader, telling.notes());
     let mut watching = Watching::new(rt, telling.watched);
     let played = play_outputs(rt, job, &mut reader, &mut outputs, &mut watching, telling);
     watching.end();
@@ -127,6 +146,7 @@ fn play_reader<'a, R: Files + Print + Eprint + AllocGlobal, S: Read + Drop>(
             missed: job.wanted.missed(ended.unwritten),
             undone: told_of(rt, job, &played, bytes_of(&text), telling),
             replies: replies_of(rt, &played, telling),
+            unanswered: unanswered_of(rt, &played, telling),
             ..Evidence::of_worked(job.source, played)
         },
     }

@@ -7,12 +7,13 @@ use crate::explain::{Evidence, name_of};
 use crate::keeping::{Keeping, bytes_of};
 use crate::outputs::{Outputs, Wanted};
 use crate::performed::Performed;
-use crate::telling::{Printing, Telling};
+use crate::printing::Printing;
+use crate::telling::Telling;
 use command_line::{Outcome, Source};
 use commands::{Origin, Refused, answer_of, capture_run, run_frozen};
 use frozen::Frozen;
 use frozen_trace::{Refusals, Traced};
-use reply_advice::Replies;
+use reply_advice::{Replies, Unanswered};
 use rtmp::Routes;
 use script_advice::write_undone;
 use std::fs::File;
@@ -52,6 +53,24 @@ fn replies_of(
 ) -> Option<Replies> {
     match traced {
         Ok(Traced::Ran(run)) if telling.explains => Some(Replies::of_run(rt.alloc(), run)),
+        _ => None,
+    }
+}
+
+/// What is said of the questions that nobody answered, if that is to be told: nothing where memory
+/// runs out.
+fn unanswered_of(
+    rt: &impl AllocGlobal,
+    traced: &Result<Traced<Frozen<Routes>>, Refused>,
+    telling: Telling,
+) -> Option<Vec<u8>> {
+    match traced {
+        Ok(Traced::Ran(run)) if telling.notes() => {
+            let mut words = Vec::new(rt.alloc());
+            let unanswered = Unanswered::of_run(rt.alloc(), run);
+            unanswered.write(&mut words, run.image()).ok()?;
+            Some(words)
+        }
         _ => None,
     }
 }
@@ -113,7 +132,7 @@ fn trace_readers<'a, R: Files + Print + AllocGlobal, I: Read + Drop, S: Read + D
     mut outputs: Outputs<'_, R>,
     telling: Telling,
 ) -> Performed<'a> {
-    let mut script = Keeping::new(rt.alloc(), script, telling.explains);
+    let mut script = Keeping::new(rt.alloc(), script, telling.notes());
     let mut refusals = Refusals::new(rt.alloc());
     let traced = trace_outputs(
         rt,
@@ -132,6 +151,7 @@ fn trace_readers<'a, R: Files + Print + AllocGlobal, I: Read + Drop, S: Read + D
             missed: sources.wanted.missed(ended.unwritten),
             undone: undone_of(rt, sources, &traced, bytes_of(&text), &refusals),
             replies: replies_of(rt, &traced, telling),
+            unanswered: unanswered_of(rt, &traced, telling),
             script: text,
             ..Evidence::of_worked(source_of(sources, &traced), traced)
         },

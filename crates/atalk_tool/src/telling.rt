@@ -6,8 +6,7 @@ use crate::performed::Performed;
 use clap::error::ErrorKind as ParseError;
 use command_line::{Outcome, Request};
 use std::env::{VarError, var};
-use std::io;
-use std::io::{IsTerminal, Write, writer};
+use std::io::IsTerminal;
 use std::rt::Env;
 
 /// The variable that says when a person is told more, where the command line doesn't.
@@ -22,6 +21,16 @@ pub struct Terminals {
     pub errors: bool,
 }
 
+/// What is printed on standard output for each line of a command.
+#[derive(Clone, Copy, Debug, PartialEq, Eq)]
+pub enum Lines {
+    /// The line.
+    Text,
+    /// A JSON object.
+    Json,
+    Nothing,
+}
+
 /// What is told of a result, and where.
 #[derive(Clone, Copy)]
 pub struct Telling {
@@ -31,8 +40,8 @@ pub struct Telling {
     pub watched: bool,
     /// Whether a person is told more on standard error.
     pub explains: bool,
-    /// Whether nothing is printed on standard output.
-    pub quiet: bool,
+    /// What is printed on standard output.
+    pub lines: Lines,
 }
 
 /// When a person is told more on standard error.
@@ -96,7 +105,7 @@ impl Terminals {
             prompts: self.input && self.errors,
             watched: self.errors,
             explains: self.errors,
-            quiet: false,
+            lines: Lines::Text,
         }
     }
 }
@@ -119,41 +128,17 @@ impl Telling {
                 When::Always => true,
                 When::Never => false,
             },
-            quiet: request.quiet,
+            lines: match (request.quiet, request.json) {
+                (true, _) => Lines::Nothing,
+                (false, true) => Lines::Json,
+                (false, false) => Lines::Text,
+            },
             ..telling
         })
     }
-}
 
-/// Standard output, or nothing.
-#[derive(Drop)]
-pub struct Printing<'a, R> {
-    rt: &'a R,
-    quiet: bool,
-}
-
-impl<'a, R: Print> Printing<'a, R> {
-    /// Where the lines of a command go.
-    pub fn new(rt: &'a R, telling: Telling) -> Printing<'a, R> {
-        Printing {
-            rt,
-            quiet: telling.quiet,
-        }
-    }
-}
-
-impl<R: Print> Write for Printing<'_, R> {
-    fn write(&mut self, bytes: &[u8]) -> io::Result<usize> {
-        if self.quiet {
-            return Ok(bytes.len());
-        }
-        writer(self.rt).write(bytes)
-    }
-
-    fn flush(&mut self) -> io::Result<()> {
-        if self.quiet {
-            return Ok(());
-        }
-        writer(self.rt).flush()
+    /// Whether notes are told, to a person or as objects.
+    pub fn notes(self) -> bool {
+        self.explains || self.lines == Lines::Json
     }
 }

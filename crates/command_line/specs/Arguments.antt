@@ -1,10 +1,11 @@
 -- The command line, as a parse sees it.
 use Rattle.std.specs.Prelude.{◌≡◌, ◌≢◌, ◌⊎◌, ◌==◌, Bool, true, false, not, List, [], ◌∷◌, Option, Some, None, codes, option_map}
-use Rattle.std.specs.Prelude.{cond, if◌then◌else◌}
+use Rattle.std.specs.Prelude.{cond, drop, if◌then◌else◌}
+use Rattle.std.specs.Borrow.{Bor}
 use Rattle.std.specs.Str.{bytes_eq}
 use Rattle.clap.specs.Walk.{Rule}
-use Rattle.clap.specs.Words.{App, Row, Text, first_of, new_app, new_rule, with_rule, with_subcommand}
-use Rattle.clap.specs.declared.builder.ArgAction.TheVariants.{Set, SetTrue}
+use Rattle.clap.specs.Words.{App, Row, Text, all_of, first_of, new_app, new_rule, with_rule, with_subcommand}
+use Rattle.clap.specs.declared.builder.ArgAction.TheVariants.{Append, Set, SetTrue}
 use Rattle.command_line.specs.declared.arguments.Job.{Job}
 use Rattle.command_line.specs.declared.arguments.Job.TheVariants.{Audit, Draw, Make, Play, Show, Trace}
 use Rattle.command_line.specs.declared.arguments.Request.{Request}
@@ -19,6 +20,10 @@ use Rattle.table_image.specs.declared.version.Version.TheVariants.{V2}
 abbrev pub operand : Text → Rule
 operand name = record (new_rule name) { required = true; action = Some Set }
 
+-- An operand that is given once or more.
+abbrev pub operands : Text → Rule
+operands name = record (new_rule name) { required = true; action = Some Append }
+
 -- The option `--explain WHEN`.
 abbrev pub explain_option : Rule
 explain_option = record (new_rule (codes "WHEN")) { long = Some (codes "explain"); action = Some Set }
@@ -31,13 +36,21 @@ quiet_flag = record (new_rule (codes "QUIET")) { long = Some (codes "quiet"); sh
 abbrev pub with_explain : App → App
 with_explain app = with_rule app explain_option
 
--- The command, with `--explain WHEN` and `--quiet`.
-abbrev pub with_telling : App → App
-with_telling app = with_rule (with_explain app) quiet_flag
+-- The flag `--json`.
+abbrev pub json_flag : Rule
+json_flag = record (new_rule (codes "JSON")) { long = Some (codes "json"); action = Some SetTrue }
 
--- The command `audit FILE`.
+-- The command, with `--explain WHEN` and `--quiet`.
+abbrev pub with_quiet : App → App
+with_quiet app = with_rule (with_explain app) quiet_flag
+
+-- The command, with `--explain WHEN`, `--quiet` and `--json`.
+abbrev pub with_telling : App → App
+with_telling app = with_rule (with_quiet app) json_flag
+
+-- The command `audit FILE..`.
 abbrev pub audit_app : App
-audit_app = with_telling (with_rule (new_app (codes "audit")) (operand (codes "FILE")))
+audit_app = with_telling (with_rule (new_app (codes "audit")) (operands (codes "FILE")))
 
 -- The program `atalk`, without its commands.
 abbrev pub bare_app : App
@@ -179,15 +192,36 @@ abbrev pub IsMeant : Option (Text × List Row) → Job → Type 0
 IsMeant None job = Audits None job
 IsMeant (Some met) job = IsMeantBy (asked met.0) met.1 job
 
--- What is told, by the options of the command: the word of `--explain`, and whether `--quiet` is given.
+-- What is told, by the options of the command: the word of `--explain`, and whether `--quiet` and `--json` are given.
 abbrev pub IsTold : Option (Text × List Row) → Request → Type 0
-IsTold None r = (r.explain ≡ None) × (r.quiet ≡ false)
+IsTold None r = (r.explain ≡ None) × (r.quiet ≡ false) × (r.json ≡ false)
 IsTold (Some met) r = (option_map (λ word. word.now) r.explain ≡ first_of (codes "WHEN") met.1)
-    × (r.quiet ≡ is_set (first_of (codes "QUIET") met.1))
+    × (r.quiet ≡ is_set (first_of (codes "QUIET") met.1)) × (r.json ≡ is_set (first_of (codes "JSON") met.1))
 
--- The request for the job of the command that was matched, with what is told.
+-- The source with this name.
+abbrev pub source_for : Bor Text → Source
+source_for name = cond (bytes_eq name.now (codes "-")) StandardInput (File name)
+
+-- The sources of the texts, in their order.
+abbrev pub AreNamed : List Text → List Source → Type 0
+AreNamed [] [] = Unit {0}
+AreNamed (text ∷ texts) (source ∷ sources) = Names (Some text) source × AreNamed texts sources
+AreNamed [] (source ∷ sources) = ⊥
+AreNamed (text ∷ texts) [] = ⊥
+
+-- The texts after the first one.
+abbrev pub later : Option (List Text) → List Text
+later None = []
+later (Some texts) = drop 1 texts
+
+-- The sources after the first one that an operand FILE names.
+abbrev pub IsFurther : Option (Text × List Row) → Request → Type 0
+IsFurther None r = r.further.items ≡ []
+IsFurther (Some met) r = AreNamed (later (all_of (codes "FILE") met.1)) r.further.items
+
+-- The request for the job of the command that was matched, with what is told, and with the further sources.
 abbrev pub IsRequest : Option (Text × List Row) → Request → Type 0
-IsRequest met r = IsMeant met r.job × IsTold met r
+IsRequest met r = IsMeant met r.job × IsTold met r × IsFurther met r
 
 -- The argument is no flag: it has at most one byte, or doesn't begin with a dash.
 abbrev pub is_operand : Text → Bool

@@ -1,18 +1,20 @@
 //! Reads the arguments of the command line.
 
-ghost use Rattle.std.specs.Prelude.{◌≡◌, ◌≢◌, ◌⊎◌, ◌≤◌, ◌∷◌};
+ghost use Rattle.std.specs.Prelude.{◌≡◌, ◌≢◌, ◌⊎◌, ◌≤◌, ◌∷◌, ◌++◌};
 ghost use Rattle.std.specs.Prelude.{List, ℕ, [], None, true, codes, length, map};
-ghost use Rattle.std.specs.Prelude.{IfOk, IfErr, IsErrAnd, Some, option_map};
-ghost use Rattle.clap.specs.Words.{FailsBy, fault_of, first_of, found_of, kind_of, rows_of};
+ghost use Rattle.std.specs.Prelude.{IfOk, IfErr, IsErrAnd, OnOk, Some, option_map};
+ghost use Rattle.clap.specs.Words.{FailsBy, all_of, fault_of, first_of, found_of, kind_of};
+ghost use Rattle.clap.specs.Words.{rows_of};
 ghost use Rattle.clap.specs.Words.{subcommand_of, subcommand_rows_of, takes};
 ghost use Rattle.clap.specs.declared.error.ErrorKind.TheVariants.{OutOfMemory};
-ghost use Rattle.command_line.specs.Arguments.{About, AreOperands, Asks, Form, IsMeantBy};
-ghost use Rattle.command_line.specs.Arguments.{IsRequest, Names, about_kind, about_word, asked};
-ghost use Rattle.command_line.specs.Arguments.{atalk_app, is_set, operands_of, version_by, words_of};
+ghost use Rattle.command_line.specs.Arguments.{About, AreNamed, AreOperands, Asks, Form};
+ghost use Rattle.command_line.specs.Arguments.{IsMeantBy, IsRequest, Names, about_kind, about_word};
+ghost use Rattle.command_line.specs.Arguments.{asked, atalk_app, is_set, later, operands_of};
+ghost use Rattle.command_line.specs.Arguments.{source_for, version_by, words_of};
 
 use crate::syntax::atalk_command;
 use clap::{ArgMatches, Error};
-use std::alloc::Global;
+use std::alloc::{AllocError, Global};
 use std::convert::AsStr;
 use table_image::Version;
 
@@ -44,14 +46,18 @@ pub enum Job<'a> {
 }
 
 /// What the command line asks for.
-#[derive(Clone, Copy, Debug, PartialEq, Eq)]
+#[derive(Debug, Drop)]
 pub struct Request<'a> {
     /// The job.
     pub job: Job<'a>,
+    /// The images that an audit judges after the first one, in their order.
+    pub further: Vec<Source<'a>>,
     /// The word of `--explain`, if it is given.
     pub explain: Option<&'a str>,
     /// Whether `--quiet` is given.
     pub quiet: bool,
+    /// Whether `--json` is given.
+    pub json: bool,
 }
 
 /// Reads the arguments. The first one is the program's own name.
@@ -84,27 +90,69 @@ pub fn read_arguments<'a, S: AsStr>(alloc: Global, arguments: &'a [S]) -> Result
         → IsErrAnd result (λ e. (kind_of e ≡ about_kind about) ⊎ (kind_of e ≡ OutOfMemory)) }
 {
     let matches = atalk_command(alloc)?.try_get_matches_from(arguments)?;
-    Ok(request_of(&matches))
+    match request_of(alloc, &matches) {
+        Ok(request) => Ok(request),
+        Err(error) => Err(Error::from(error)),
+    }
 }
 
-/// What was matched. Without a command it is an audit of standard input.
-fn request_of<'a>(matches: &ArgMatches<'a>) -> Request<'a>
+/// What was matched. Without a command it is an audit of standard input. Error: `AllocError`.
+fn request_of<'a>(alloc: Global, matches: &ArgMatches<'a>) -> Result<Request<'a>, AllocError>
     ensures none { subcommand_rows_of matches.now ≡ None
-        → result.job ≡ Job.Audit Source.StandardInput }
-    ensures meant { IsRequest (subcommand_rows_of matches.now) result }
+        → IfOk result (λ r. r.job ≡ Job.Audit Source.StandardInput) }
+    ensures meant { IfOk result (IsRequest (subcommand_rows_of matches.now)) }
 {
     match matches.subcommand() {
-        Some((name, operands)) => Request {
+        Some((name, operands)) => Ok(Request {
             job: job_named(name, operands),
+            further: further_in(alloc, operands)?,
             explain: word_in(operands, "WHEN"),
             quiet: flag_in(operands, "QUIET"),
-        },
-        None => Request {
+            json: flag_in(operands, "JSON"),
+        }),
+        None => Ok(Request {
             job: Job::Audit(Source::StandardInput),
+            further: Vec::new(alloc),
             explain: None,
             quiet: false,
-        },
+            json: false,
+        }),
     }
+}
+
+/// Appends the sources with these names. Error: `AllocError`.
+fn put_sources<'a>(sources: &mut Vec<Source<'a>>, texts: &[&'a str]) -> Result<(), AllocError>
+    ensures { OnOk result
+        (sources.new.items ≡ sources.old.items ++ map source_for texts.now) }
+{
+    match texts {
+        [] => Ok(()),
+        [first, rest @ ..] => {
+            sources.push(source_of(first))?;
+            put_sources(sources, rest)
+        }
+    }
+}
+
+/// The texts after the first one.
+fn later_of<'b, 'a>(texts: Option<&'b [&'a str]>) -> &'b [&'a str]
+    ensures { map (λ text. text.now) result.now
+        ≡ later (option_map (λ all. map (λ text. text.now) all.now) texts.entry) }
+{
+    match texts {
+        Some([_, rest @ ..]) => rest,
+        _ => &[],
+    }
+}
+
+/// The sources in the operand FILE after the first one. Error: `AllocError`.
+fn further_in<'a>(alloc: Global, operands: &ArgMatches<'a>) -> Result<Vec<Source<'a>>, AllocError>
+    ensures { IfOk result (λ v.
+        AreNamed (later (all_of (codes "FILE") (rows_of (found_of operands.now)))) v.items) }
+{
+    let mut sources = Vec::new(alloc);
+    put_sources(&mut sources, later_of(operands.get_strs("FILE")))?;
+    Ok(sources)
 }
 
 /// The job of a command: an audit where its name is none of the others.
@@ -182,6 +230,7 @@ fn version_in(operands: &ArgMatches<'_>, name: &str) -> Option<Version>
 fn source_of(text: &str) -> Source<'_>
     ensures input { text.entry.now ≡ codes "-" → result ≡ Source.StandardInput }
     ensures file { text.entry.now ≢ codes "-" → result ≡ Source.File text.entry }
+    ensures named { result ≡ source_for text.entry }
 {
     if text == "-" {
         Source::StandardInput

@@ -54,7 +54,7 @@ const AFTER_COMMAND: &str = "Exit status:
 More: atalk --help has the numbers of refusals, and man atalk the rest";
 
 const AUDIT: &str =
-    "Judges an image and prints one line: yes with a summary, or no with the first fault";
+    "Judges images and prints one line for each: yes with a summary, or no with the first fault";
 
 const TRACE: &str = "Runs a script over an image that passes the audit, and prints what happens";
 
@@ -75,6 +75,8 @@ const NET: &str = "Draws how each router sends datagrams for this network on";
 
 const IMAGE: &str = "The image; - is standard input";
 
+const IMAGES: &str = "The images; - is standard input. Of several, each line begins with its name";
+
 const SCRIPT: &str = "The script; - is standard input";
 
 const INTERNET: &str = "The internet file; - is standard input";
@@ -94,6 +96,8 @@ const EXPLAIN: &str =
 
 const QUIET: &str = "Prints nothing on standard output: the exit status tells the verdict";
 
+const JSON: &str = "Prints one JSON object a line instead of text";
+
 /// A required operand.
 fn operand<'a>(alloc: Global, name: &'a str, help: &'a str) -> Arg<'a>
     ensures rule { rule_of result ≡ spec.operand name.entry.now }
@@ -103,6 +107,14 @@ fn operand<'a>(alloc: Global, name: &'a str, help: &'a str) -> Arg<'a>
         .help(help)
         .required(true)
         .action(ArgAction::Set)
+}
+
+/// An operand that is given once or more.
+fn operands<'a>(alloc: Global, name: &'a str, help: &'a str) -> Arg<'a>
+    ensures rule { rule_of result ≡ spec.operands name.entry.now }
+    ensures local { result.global ≡ false }
+{
+    operand(alloc, name, help).action(ArgAction::Append)
 }
 
 /// A command with `--explain WHEN`.
@@ -120,9 +132,9 @@ fn with_explain<'a>(alloc: Global, command: Command<'a>) -> Result<Command<'a>, 
 }
 
 /// A command with `--explain WHEN` and `--quiet`.
-fn with_telling<'a>(alloc: Global, command: Command<'a>) -> Result<Command<'a>, AllocError>
+fn with_quiet<'a>(alloc: Global, command: Command<'a>) -> Result<Command<'a>, AllocError>
     requires local { (fields_of command).has_globals ≡ false }
-    ensures app { IfOk result (λ it. app_of it ≡ spec.with_telling (app_of command.entry)) }
+    ensures app { IfOk result (λ it. app_of it ≡ spec.with_quiet (app_of command.entry)) }
     ensures local { IfOk result (λ it. (fields_of it).has_globals ≡ false) }
 {
     with_explain(alloc, command)?.arg(
@@ -134,7 +146,21 @@ fn with_telling<'a>(alloc: Global, command: Command<'a>) -> Result<Command<'a>, 
     )
 }
 
-/// `atalk audit FILE`.
+/// A command with `--explain WHEN`, `--quiet` and `--json`.
+fn with_telling<'a>(alloc: Global, command: Command<'a>) -> Result<Command<'a>, AllocError>
+    requires local { (fields_of command).has_globals ≡ false }
+    ensures app { IfOk result (λ it. app_of it ≡ spec.with_telling (app_of command.entry)) }
+    ensures local { IfOk result (λ it. (fields_of it).has_globals ≡ false) }
+{
+    with_quiet(alloc, command)?.arg(
+        Arg::new(alloc, "JSON")
+            .long("json")
+            .help(JSON)
+            .action(ArgAction::SetTrue),
+    )
+}
+
+/// `atalk audit FILE..`.
 fn audit_command<'a>(alloc: Global) -> Result<Command<'a>, AllocError>
     ensures app { IfOk result (λ command. app_of command ≡ audit_app) }
     ensures local { IfOk result (λ command. (fields_of command).has_globals ≡ false) }
@@ -142,7 +168,7 @@ fn audit_command<'a>(alloc: Global) -> Result<Command<'a>, AllocError>
     let command = Command::new(alloc, "audit")
         .about(AUDIT)
         .after_help(AFTER_COMMAND)
-        .arg(operand(alloc, "FILE", IMAGE))?;
+        .arg(operands(alloc, "FILE", IMAGES))?;
     with_telling(alloc, command)
 }
 

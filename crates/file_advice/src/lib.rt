@@ -12,5 +12,5 @@ mod telling;
 mod undone;
 
 pub use settled::{write_other_zones, write_shared_tries};
-pub use telling::{Format, explain, write};
+pub use telling::{Format, write};
 pub use undone::write_undone;

@@ -97,18 +97,3 @@ pub fn write<W: Write>(
         Err(fault) => write_no_text(writer, text, &fault),
     }
 }
-
-/// Prints on standard error what `write` writes.
-pub fn explain(
-    rt: &(impl Eprint + AllocGlobal),
-    format: Format,
-    text: &[u8],
-    refused: &Refused,
-) -> io::Result<()> {
-    let mut lines = Vec::new(rt.alloc());
-    write(rt.alloc(), &mut lines, format, text, refused)?;
-    match std::str::from_utf8(lines.as_slice()) {
-        Ok(lines) => eprint!(rt; "{lines}"),
-        Err(_) => Ok(()),
-    }
-}

@@ -1,9 +1,8 @@
 -- What the promises say of a run in which no frame is pending.
-use Rattle.std.proofs.Common.{Bool, Contains, List, None, Option, Some, [], ap, arith, false, not, refl, slice_get, subst, sym, true, ℕ, ◌&&◌, ◌+◌, ◌∙◌, ◌≡◌}
+use Rattle.std.proofs.Common.{Bool, Contains, List, None, Option, Some, [], ap, arith, false, refl, slice_get, subst, sym, true, ℕ, ◌+◌, ◌∙◌, ◌≡◌}
 use Rattle.std.proofs.Common.{is_some}
 use Rattle.std.proofs.lemmas.Bool.{and_parts}
 use Rattle.std.proofs.lemmas.Option.{none-some}
-use Rattle.at_base.specs.Address.{same_address}
 use Rattle.audit.proofs.WalkFacts.{owner_is}
 use Rattle.audit.specs.Routing.{home, owner}
 use Rattle.cable_model.proofs.Counting.{count_none}
@@ -26,7 +25,7 @@ use Rattle.resolved_runs.proofs.Erased.{erases}
 use Rattle.resolved_runs.proofs.Heard.{heard_resolved}
 use Rattle.resolved_runs.specs.AskedFor.{AreAskedFor, heard, let_down}
 use Rattle.resolved_runs.specs.HeldCounts.{holds_copy, holds_forward, holds_request, is_held_copy}
-use Rattle.run_cables.specs.Wired.{cabling_of, happened}
+use Rattle.run_cables.specs.Wired.{happened}
 use Rattle.run_cables.specs.declared.wiring.Wiring.{Wiring}
 use Rattle.run_cables.specs.declared.wiring.Wiring.TheVariants.{Asking, Known}
 use Rattle.table_image.specs.Internet.{Internet}

@@ -15,7 +15,7 @@ use Rattle.end_node.specs.Holding.{NodeHolding}
 use Rattle.frozen.specs.Events.{SentBy}
 use Rattle.frozen.specs.Orders.{IsFair, bytes_for}
 use Rattle.frozen.specs.Promises.{HaveOnlyAsked}
-use Rattle.frozen.specs.Runs.{IsFrozen, IsLegalOn, Running, TakenBy, TakenFrom, cabling}
+use Rattle.frozen.specs.Runs.{AddsBlock, IsBlockOn, IsFrozen, IsLegalOn, Running, TakenBy, TakenFrom, cabling}
 use Rattle.frozen.specs.declared.order.Order.{Order}
 use Rattle.image_stations.specs.Holders.{HoldStations, HoldsStation}
 use Rattle.station.specs.Members.{EitherHears}
@@ -144,6 +144,7 @@ pub record TookOn (i : Internet) (x y : Wiring) (others : List (Member Holding N
   pub seats : (cabling_of y).seats ≡ cable_seats i
   pub legal : IsLegalOn i y
   pub block : List Entry
+  pub lawful : IsBlockOn i x block
   pub added : happened y ≡ happened x ++ block
   pub none : unasked i block ≡ 0
 
@@ -174,6 +175,7 @@ took_on i ok bounded st others (Known a) (Known b) stamp s all seats legal w =
       seats = x.entries.seats ∙ seats;
       legal = (legal.0, subst (IsLegal i) (sym added) (Goes t (Took stamp s ∷ others_of) legal.1 block));
       block = Took stamp s ∷ others_of;
+      lawful = block;
       added = added;
       none = block_none i t (Took stamp s ∷ others_of) block stamp s others_of refl;
     }
@@ -185,6 +187,7 @@ took_on i ok bounded st others (Asking a) (Asking b) stamp s all seats legal w =
       seats = r.adds.seats ∙ seats;
       legal = (legal.0, legal.1, legal_then i a b legal.2 r, r.keeps);
       block = r.block;
+      lawful = r.legal;
       added = r.adds.added;
       none = resolved_block_none i (said a.cabling) r.block r.legal stamp s m.0.rest m.0.first;
     }
@@ -196,6 +199,11 @@ pub took_so : (old new : Running) (stamp s : ℕ) → IsFrozen old → TakenBy o
 took_so old new stamp s frozen taken =
     took_on old.internet frozen.passes frozen.bounded old.stations new.stations old.wiring new.wiring stamp s frozen.holders
     frozen.seats frozen.legal taken.taken
+
+pub took_block : (old new : Running) (stamp s : ℕ) → IsFrozen old → TakenBy old stamp s new → AddsBlock old new
+took_block old new stamp s frozen taken =
+    let so = took_so old new stamp s frozen taken in
+    record { block = so.block; legal = so.lawful; added = so.added }
 
 -- A run over the same tables.
 frozen_of : (r : Running) (i : Internet) → r.internet ≡ i → Passes i → IsBounded i → HoldStations i r.stations
@@ -231,6 +239,7 @@ pub record SentOver (i : Internet) (l : Leg) (x y : Wiring) : Type 0 where
   pub seats : (cabling_of y).seats ≡ cable_seats i
   pub legal : IsLegalOn i y
   pub rest : List Entry
+  pub lawful : IsBlockOn i x (Sent l.station (body l.body) ∷ rest)
   pub added : happened y ≡ happened x ++ Sent l.station (body l.body) ∷ rest
   pub none : unasked i rest ≡ 0
 
@@ -248,6 +257,7 @@ sent_on i ok l made own (Known a) (Known b) seats legal adds =
       seats = adds.seats ∙ seats;
       legal = (legal.0, subst (IsLegal i) (sym adds.added) (Goes t _ legal.1 block));
       rest = out;
+      lawful = block;
       added = adds.added;
       none = sent_leg i (places_of i) (record { stamp = next_stamp t; cable = l.cable; station = l.station }) l.next l.body;
     }
@@ -262,6 +272,7 @@ sent_on i ok l made own (Asking a) (Asking b) seats legal sent =
       seats = r.adds.seats ∙ seats;
       legal = (legal.0, legal.1, legal_then i a b legal.2 r, r.keeps);
       rest = rest;
+      lawful = subst (ResolvedBlock i (said a.cabling)) first r.legal;
       added = by.entries.added;
       none = sent_none i (said a.cabling) r.block r.legal l.station (body l.body) rest first;
     }
@@ -298,3 +309,9 @@ sent_keeps old new o payload frozen fair sent by =
     let so = sent_so old new o payload frozen fair sent by in
     frozen_of new old.internet by.internet frozen.passes frozen.bounded
     (subst (HoldStations old.internet) (sym by.stations) frozen.holders) so.seats so.legal
+
+pub sent_block : (old new : Running) (o : Order) (payload : List ℕ) → IsFrozen old → IsFair old.internet o → IsSent o.header payload
+    → SentBy old o payload new → AddsBlock old new
+sent_block old new o payload frozen fair sent by =
+    let so = sent_so old new o payload frozen fair sent by in
+    record { block = Sent o.station (body (bytes_for o payload)) ∷ so.rest; legal = so.lawful; added = so.added }

@@ -7,4 +7,6 @@ pub mod Asked
 pub mod Asking
 pub mod Promised
 pub mod AtRest
+pub mod Sentence
 mod Examples
+pub mod ExampleRuns

@@ -1,8 +1,9 @@
 -- Consequences for a run over frozen tables.
-use Rattle.std.proofs.Common.{Err, List, None, Ok, Option, Result, Some, length, refl, sym, ℕ, ◌∙◌, ◌≡◌}
+use Rattle.std.proofs.Common.{Err, List, None, Ok, Option, Result, Some, ap, length, refl, sym, ℕ, ◌∙◌, ◌≡◌}
 use Rattle.at_base.specs.declared.error.Error.{Error}
 use Rattle.audit.specs.Rules.{Passes}
 use Rattle.cable_model.specs.Logs.{transcript as said}
+use Rattle.cable_model.specs.Pending.{pending}
 use Rattle.events.specs.declared.event.Event.{Event}
 use Rattle.events.specs.declared.event.Event.TheVariants.{Send, Request, Take}
 use Rattle.frozen.specs.Events.{Another, Happened, Happens, Nothing, Sends, Takes, header_for}
@@ -24,15 +25,17 @@ use Rattle.legal_runs.proofs.Handing.{are_by_hand}
 use Rattle.legal_runs.proofs.Takers.{are_taken_there}
 use Rattle.legal_runs.proofs.LossyLaws.{handed_with_losses}
 use Rattle.legal_runs.specs.Lookups.{NodesOnlyAsk}
+use Rattle.legal_runs.specs.Stations.{cable_seats}
 use Rattle.resolved_runs.proofs.AskedRuns.{asked_for}
 use Rattle.resolved_runs.proofs.Balances.{conserved_resolved, hops_resolved, looked_up_resolved}
 use Rattle.resolved_runs.proofs.CarriedOrHeld.{carried_or_held}
 use Rattle.resolved_runs.proofs.Erased.{erases}
 use Rattle.resolved_runs.proofs.Heard.{heard_always, heard_resolved}
 use Rattle.resolved_runs.proofs.HeldStamps.{held_once, put_once}
+use Rattle.resolved_runs.proofs.Rings.{rings}
 use Rattle.resolved_runs.proofs.TakenThere.{taken_there}
 use Rattle.resolved_runs.specs.Plain.{plain}
-use Rattle.run_cables.specs.Wired.{happened}
+use Rattle.run_cables.specs.Wired.{cabling_of, happened}
 use Rattle.run_cables.specs.declared.wiring.Wiring.{Wiring}
 use Rattle.run_cables.specs.declared.wiring.Wiring.TheVariants.{Asking, Known}
 use Rattle.table_image.specs.Internet.{Internet}
@@ -70,14 +73,17 @@ asked_for_on i (Known c) ok legal = tt
 asked_for_on i (Asking w) ok legal =
     let t = said w.cabling in
     let e = erases i ok legal.1 t legal.2 in
-    (held_once i t e.told, put_once i t e.told, asked_for i ok legal.1 t legal.2)
+    let r = rings i t legal.2 in
+    (held_once i t e.told, put_once i t e.told, asked_for i ok legal.1 t legal.2, r.reached, r.shed)
 
-heard_on : (i : Internet) (w : Wiring) → Passes i → IsLegalOn i w → AreHeardOn i w
-heard_on i (Known c) ok legal = tt
-heard_on i (Asking w) ok legal =
+heard_on : (i : Internet) (w : Wiring) → Passes i → (cabling_of w).seats ≡ cable_seats i → IsLegalOn i w → AreHeardOn i w
+heard_on i (Known c) ok seats legal = tt
+heard_on i (Asking w) ok seats legal =
     let t = said w.cabling in
-    let e = erases i ok legal.1 t legal.2 in
-    (heard_always i t ok e.told e.legal, heard_resolved i t ok e.told e.legal (asked_for i ok legal.1 t legal.2))
+    let e = erases i ok legal.1 t legal.2 in (
+      heard_always i t ok e.told e.legal,
+      λ rest. heard_resolved i t ok e.told e.legal (asked_for i ok legal.1 t legal.2) (ap (λ ss. pending ss t) (sym seats) ∙ rest),
+    )
 
 pub each_once : (r : Running) → IsFrozen r → IsEachOnce r
 each_once r f = each_once_on r.internet r.wiring f.passes f.legal
@@ -95,7 +101,7 @@ pub all_asked_for : (r : Running) → IsFrozen r → AreAllAskedFor r
 all_asked_for r f = asked_for_on r.internet r.wiring f.passes f.legal
 
 pub all_heard : (r : Running) → IsFrozen r → AreAllHeard r
-all_heard r f = heard_on r.internet r.wiring f.passes f.legal
+all_heard r f = heard_on r.internet r.wiring f.passes f.seats f.legal
 
 -- ---- By the image's version
 

@@ -14,11 +14,13 @@ use Rattle.legal_runs.specs.Carriage.{AreByHand, AreCarried, AreTakenThere, none
 use Rattle.legal_runs.specs.Counts.{HasHopsLeft, IsConserved, reached, sent}
 use Rattle.legal_runs.specs.Lookups.{IsLookedUp, NodesOnlyAsk, asked, lookups, taken}
 use Rattle.legal_runs.specs.Requests.{is_forward, is_lookup, request}
-use Rattle.resolved_runs.specs.AskedFor.{AreAskedFor, AreHeard, AreHeardOrOnTheirWay, AreHeldOnce}
+use Rattle.resolved_runs.specs.AskedFor.{AreAskedFor, AreHeardAtRest, AreHeardOrOnTheirWay, AreHeldOnce}
 use Rattle.resolved_runs.specs.HeldChains.{AreCarriedOrHeld}
 use Rattle.resolved_runs.specs.HeldCounts.{given_up, given_up_forwards, given_up_requests}
 use Rattle.resolved_runs.specs.Plain.{plain}
 use Rattle.resolved_runs.specs.ResolvedLaws.{HasHopsLeftResolved, IsConservedResolved, IsLookedUpResolved}
+use Rattle.resolved_runs.specs.Rings.{AreHeldAsReached, AreShed}
+use Rattle.run_cables.specs.Wired.{pending_for}
 use Rattle.run_cables.specs.declared.wiring.Wiring.{Wiring}
 use Rattle.run_cables.specs.declared.wiring.Wiring.TheVariants.{Asking, Known}
 use Rattle.table_image.specs.Internet.{Internet}
@@ -71,31 +73,34 @@ IsLookedUpOn i (Asking w) k = IsLookedUpResolved i (said w.cabling) k
 abbrev pub LooksUp : Running → Type 0
 LooksUp r = HaveOnlyAsked r × ((k : List ℕ) → IsLookedUpOn r.internet r.wiring k)
 
--- Where stations ask for hardware addresses: a datagram is held once, and put once; and while it is held for a station, a request
--- for that station's address, or the station's response to the holder, is pending.
+-- Where stations ask for hardware addresses: a datagram is held once, also for a target that nobody is, and put once; while it is
+-- held for a station, a request for that station's address, or the station's response to the holder, is pending; and what is
+-- given up is the oldest of sixteen, directly after its station held one more on its cable.
 abbrev pub AreAskedForOn : Internet → Wiring → Type 0
 AreAskedForOn i (Known c) = Unit {0}
-AreAskedForOn i (Asking w) = AreHeldOnce (said w.cabling) × ArePutOnce (said w.cabling) × AreAskedFor i (said w.cabling)
+AreAskedForOn i (Asking w) =
+    AreHeldOnce (said w.cabling) × ArePutOnce (said w.cabling) × AreAskedFor i (said w.cabling)
+    × AreHeldAsReached (said w.cabling) × AreShed (said w.cabling)
 
 -- What is held is asked for, in a run.
 abbrev pub AreAllAskedFor : Running → Type 0
 AreAllAskedFor r = AreAskedForOn r.internet r.wiring
 
+-- Nothing is pending: each frame was taken by each station that it was for.
+abbrev pub IsAtRest : Running → Type 0
+IsAtRest r = pending_in r ≡ []
+
 -- Where stations ask for hardware addresses: each datagram to a station's address was taken by that station, is on its way to it,
 -- or was given up; and none is on its way where no frame is pending.
 abbrev pub AreHeardOn : Internet → Wiring → Type 0
 AreHeardOn i (Known c) = Unit {0}
-AreHeardOn i (Asking w) = AreHeardOrOnTheirWay i (said w.cabling) × AreHeard i (said w.cabling)
+AreHeardOn i (Asking w) = AreHeardOrOnTheirWay i (said w.cabling) × (pending_for (Asking w) ≡ [] → AreHeardAtRest i (said w.cabling))
 
 -- Datagrams are heard, in a run.
 abbrev pub AreAllHeard : Running → Type 0
 AreAllHeard r = AreHeardOn r.internet r.wiring
 
 -- ---- At rest
-
--- Nothing is pending: each frame was taken by each station that it was for.
-abbrev pub IsAtRest : Running → Type 0
-IsAtRest r = pending_in r ≡ []
 
 -- How often the body was given up while it was held for a router: never where every hardware address is known.
 abbrev pub shed : Internet → Wiring → List ℕ → ℕ

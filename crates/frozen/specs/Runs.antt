@@ -1,5 +1,5 @@
 -- Runs over the frozen tables of an internet.
-use Rattle.std.specs.Prelude.{◌≡◌, ℕ, ◌+◌, cond, List, Option, Some, None, length, nat_lt, slice_get, slice_set}
+use Rattle.std.specs.Prelude.{◌≡◌, ℕ, ◌+◌, ◌++◌, cond, List, Option, Some, None, length, nat_lt, slice_get, slice_set}
 use Rattle.std.specs.List.{list_any}
 use Rattle.at_base.specs.declared.error.Error.{Error}
 use Rattle.at_base.specs.declared.error.Error.TheVariants.{Full, NotPending}
@@ -14,11 +14,11 @@ use Rattle.image_stations.specs.Holders.{HoldStations}
 use Rattle.station.specs.Members.{EitherHears, either}
 use Rattle.station.specs.declared.member.Member.{Member}
 use Rattle.legal_cables.specs.Keeping.{AreKept}
-use Rattle.legal_runs.specs.Legal.{IsLegal}
+use Rattle.legal_runs.specs.Legal.{Block, IsLegal}
 use Rattle.legal_runs.specs.Legs.{places_of}
 use Rattle.legal_runs.specs.Stations.{cable_seats}
 use Rattle.resolved_runs.specs.Fitting.{SeatsFit}
-use Rattle.resolved_runs.specs.ResolvedRuns.{IsLegalResolved}
+use Rattle.resolved_runs.specs.ResolvedRuns.{IsLegalResolved, ResolvedBlock}
 use Rattle.router.specs.Answers.{Hears as RouterHears}
 use Rattle.router.specs.Holding.{Holding}
 use Rattle.run_cables.specs.Wired.{AreFresh, IsTakenOn, cabling_of, happened, pending_for, take_room}
@@ -66,6 +66,18 @@ pub record IsFrozen (r : Running) : Type 0 where
   pub holders : HoldStations r.internet r.stations
   pub seats : (cabling r).seats ≡ cable_seats r.internet
   pub legal : IsLegalOn r.internet r.wiring
+
+-- These entries are a legal block after what happened: over an image of version 1 as where every hardware address is known, and
+-- over one of version 2 with resolution.
+abbrev pub IsBlockOn : Internet → Wiring → List Entry → Type 0
+IsBlockOn i (Known c) block = Block i (said c) block
+IsBlockOn i (Asking w) block = ResolvedBlock i (said w.cabling) block
+
+-- What was added to the transcript of a run is one legal block.
+pub record AddsBlock (old new : Running) : Type 0 where
+  pub block : List Entry
+  pub legal : IsBlockOn old.internet old.wiring block
+  pub added : transcript new ≡ transcript old ++ block
 
 -- A run over the frozen tables of an image of this version.
 abbrev pub RunsOver : Version → Running → Type 0

@@ -13,9 +13,9 @@ ghost use Rattle.frozen.specs.Events.{IsUnstarted, Sends, SentBy, Stopped, order
 ghost use Rattle.frozen.specs.Orders as spec;
 ghost use Rattle.frozen.specs.Orders.{IsFair, bytes_for};
 ghost use Rattle.frozen.specs.Promises.{AreAllAskedFor, AreAllCarried, AreAllHeard, HasHops};
-ghost use Rattle.frozen.specs.Promises.{HaveOnlyAsked, IsEachOnce, LooksUp, OnlyAsks};
+ghost use Rattle.frozen.specs.Promises.{HaveOnlyAsked, IsAtRest, IsEachOnce, LooksUp, OnlyAsks};
 ghost use Rattle.frozen.specs.Promises.{is_routers_request};
-ghost use Rattle.frozen.specs.Runs.{HasBegun, IsFrozen, TakenBy, pending_in, take_refusal};
+ghost use Rattle.frozen.specs.Runs.{AddsBlock, HasBegun, IsFrozen, TakenBy, pending_in, take_refusal};
 ghost use Rattle.image_stations.specs.Holders.{AreFresh};
 ghost use Rattle.legal_runs.specs.Requests as requests_spec;
 ghost use Rattle.run_cables.specs.Wired.{cabling_of, send_room};
@@ -135,7 +135,8 @@ impl<T: RouteTable> Frozen<T> {
 
     /// The number of pending pairs of a frame and a station. Allocates nothing.
     pub fn pending_count(&self) -> usize
-        ensures { result ≡ length (pending_in self.now) }
+        ensures value { result ≡ length (pending_in self.now) }
+        ensures at_rest { result ≡ 0 → IsAtRest self.now }
     {
         self.wiring.pending_count()
     }
@@ -168,6 +169,7 @@ impl<T: RouteTable> Frozen<T> {
         ensures request { OnOk result (requests_spec.request (body (bytes_for order.now payload.now))
             ≡ requests_spec.packet_in (Some (datagram_of order.now.header payload.now))) }
         ensures frozen { IsFrozen self.new }
+        ensures block { OnOk result (AddsBlock self.old self.new) }
         ensures asks { HaveOnlyAsked self.old
             → is_routers_request (body (bytes_for order.now payload.now)) ≡ false
             → HaveOnlyAsked self.new }
@@ -194,6 +196,7 @@ impl<T: RouteTable> Frozen<T> {
         ensures sent { OnOk result (Sends self.old (spec.ask_order self.old.internet node via)
             (spec.ask_data self.old.internet node id name.now) self.new) }
         ensures frozen { IsFrozen self.new }
+        ensures block { OnOk result (AddsBlock self.old self.new) }
         ensures asks { HaveOnlyAsked self.old → HaveOnlyAsked self.new }
         ensures ok { OnOk result
             (order_refusal self.old (spec.ask_order self.old.internet node via) ≡ None) }
@@ -222,6 +225,7 @@ impl<T: RouteTable> Frozen<T> {
         requires there { station < length self.old.stations }
         ensures taken { OnOk result (TakenBy self.old stamp station self.new) }
         ensures frozen { IsFrozen self.new }
+        ensures block { OnOk result (AddsBlock self.old self.new) }
         ensures asks { HaveOnlyAsked self.old → HaveOnlyAsked self.new }
         ensures ok { OnOk result (take_refusal self.old stamp station ≡ None) }
         ensures refused { IfErr result (IsRefused (take_refusal self.old stamp station)) }
@@ -248,6 +252,7 @@ impl<T: RouteTable> Frozen<T> {
     /// After an error nothing has changed.
     pub fn event(&mut self, event: &Event) -> Result<(), Error>
         ensures happens { OnOk result (Happens self.old event.now self.new) }
+        ensures block { OnOk result (AddsBlock self.old self.new) }
         ensures conserved { IsEachOnce self.new }
         ensures hops { HasHops self.new }
         ensures carried { AreAllCarried self.new }
@@ -326,6 +331,7 @@ impl<T: RouteTable> Frozen<T> {
     /// errors are those of `Take`; frames taken before an error stay taken.
     pub fn drain(&mut self, most: u32) -> Result<bool, Error>
         ensures drained { IfOk result (λ none_left. DrainsTo self.old most none_left self.new) }
+        ensures at_rest { IfOk result (λ none_left. none_left ≡ true → IsAtRest self.new) }
         ensures conserved { IsEachOnce self.new }
         ensures hops { HasHops self.new }
         ensures carried { AreAllCarried self.new }

@@ -1,19 +1,23 @@
 //! Laws that hold of every run over an internet that passes the audit. The functions do nothing:
 //! each law is the function's ensures clause.
 
-ghost use Rattle.std.specs.Prelude.{◌≡◌, ◌≢◌, [], Contains, List, None, Some, ℕ, ◌+◌, false, true};
+ghost use Rattle.std.specs.Prelude.{◌≡◌, ◌≢◌, [], Contains, List, None, Some, ℕ, ◌+◌};
+ghost use Rattle.std.specs.Prelude.{false, length, true};
 ghost use Rattle.audit.specs.Example.{three_cables};
 ghost use Rattle.audit.specs.Routing.{home};
 ghost use Rattle.audit.specs.Rules.{Passes};
 ghost use Rattle.cable_model.specs.Holdings.{still_held};
 ghost use Rattle.cable_model.specs.Transcript.{ArePutOnce, Holding};
 ghost use Rattle.ddp.specs.Bodies.{target};
-ghost use Rattle.frozen.specs.Examples.{ended, run_of, sends, underway};
+ghost use Rattle.frozen.specs.Examples.{echoed, ended, held_for_nobody, run_of, sends, underway};
 ghost use Rattle.frozen.specs.Promises.{AreAllCarried, AreTaken, HasArrived, HaveHadALookup};
 ghost use Rattle.frozen.specs.Promises.{HaveOnlyAsked, IsAtRest, IsEachOnce, OnlyAsks};
 ghost use Rattle.frozen.specs.Runs.{IsFrozen, Running, RunsOver, transcript};
+ghost use Rattle.frozen.specs.Sentence.{HasBeenLookedUp, HasReached, IsLossless, WasHeardBy};
 ghost use Rattle.legal_runs.specs.Carriage.{AreByHand, AreCarried, AreTakenThere, none_yet};
-ghost use Rattle.legal_runs.specs.Counts.{HasHopsLeft, IsConserved, reached, sent};
+ghost use Rattle.legal_runs.specs.Counts.{HasHopsLeft, IsConserved, reached, sent, under_way};
+ghost use Rattle.legal_runs.specs.Example.{echo_request};
+ghost use Rattle.legal_runs.specs.Example.{plain as plain_to};
 ghost use Rattle.legal_runs.specs.Legal.{IsLegal};
 ghost use Rattle.legal_runs.specs.LookupExample.{blue};
 ghost use Rattle.legal_runs.specs.Lookups.{IsLookedUp, lookups};
@@ -21,10 +25,12 @@ ghost use Rattle.legal_runs.specs.Requests.{is_among, listing, zone_of};
 ghost use Rattle.resolved_runs.specs.AskedFor.{AreAskedFor, AreHeardOrOnTheirWay, AreHeldOnce};
 ghost use Rattle.resolved_runs.specs.AskedFor.{heard, let_down};
 ghost use Rattle.resolved_runs.specs.HeldChains.{AreCarriedOrHeld};
+ghost use Rattle.resolved_runs.specs.HeldCounts.{under_way_or_held};
 ghost use Rattle.resolved_runs.specs.Plain.{plain};
 ghost use Rattle.resolved_runs.specs.ResolvedLaws.{HasHopsLeftResolved, IsConservedResolved};
 ghost use Rattle.resolved_runs.specs.ResolvedLaws.{IsLookedUpResolved};
 ghost use Rattle.resolved_runs.specs.ResolvedRuns.{IsLegalResolved};
+ghost use Rattle.resolved_runs.specs.Rings.{AreFewHeld};
 ghost use Rattle.table_image.specs.Seats.{Seat, seat_at};
 ghost use Rattle.table_image.specs.declared.version.Version.TheVariants.{V1, V2};
 
@@ -101,6 +107,48 @@ pub fn the_headline()
         → lookups r.internet k c (transcript r) ≡ 0 }
 {}
 
+/// What a yes promises, for an image of version 1. A run starts only over an image whose audit says
+/// yes. Then at every moment of every run of sends and takes over its frozen tables, each datagram to
+/// a listed network is under way once or has reached its destination's cable once, carried by at
+/// most fifteen routers over cables that they share. And when no frame is pending, each datagram to
+/// a listed network has reached its destination's cable, and no other, as often as it was sent; and
+/// where nodes sent no forward request and no lookup, each broadcast request has made one lookup on
+/// exactly the cables that list its zone.
+pub fn what_a_yes_promises()
+    ensures audited { (r : Running) → RunsOver V1 r → Passes r.internet }
+    ensures every_moment { (r : Running) (b : List ℕ) (c : ℕ) → RunsOver V1 r
+        → home r.internet (target b).net ≡ Some c
+        → sent b (transcript r)
+        ≡ reached b c (transcript r) + under_way r.internet b (transcript r) }
+    ensures carried { (r : Running) → RunsOver V1 r → AreAllCarried r }
+    ensures reached { (r : Running) (b : List ℕ) (c : ℕ) → RunsOver V1 r → IsAtRest r
+        → home r.internet (target b).net ≡ Some c → HasReached r b c }
+    ensures looked_up { (r : Running) (k : List ℕ) → RunsOver V1 r → IsAtRest r
+        → HaveOnlyAsked r → HasBeenLookedUp r k }
+{}
+
+/// What a yes promises, for an image of version 2, where stations ask for hardware addresses and
+/// hold datagrams meanwhile: the same of every run in which nothing was lost, but that a datagram
+/// may also be held; and when no frame is pending, each datagram to a station's address was heard by
+/// that station as often as it was sent. Nothing is lost as long as no station holds seventeen
+/// datagrams on a cable at once.
+pub fn what_a_yes_promises_with_resolution()
+    ensures audited { (r : Running) → RunsOver V2 r → Passes r.internet }
+    ensures every_moment { (r : Running) (b : List ℕ) (c : ℕ) → RunsOver V2 r → IsLossless r
+        → home r.internet (target b).net ≡ Some c
+        → sent b (transcript r)
+        ≡ reached b c (transcript r) + under_way_or_held r.internet b (transcript r) }
+    ensures carried { (r : Running) → RunsOver V2 r → AreAllCarried r }
+    ensures reached { (r : Running) (b : List ℕ) (c : ℕ) → RunsOver V2 r → IsLossless r
+        → IsAtRest r → home r.internet (target b).net ≡ Some c → HasReached r b c }
+    ensures heard { (r : Running) (b : List ℕ) (c : ℕ) (s : Seat) → RunsOver V2 r → IsLossless r
+        → IsAtRest r → seat_at r.internet c (target b) ≡ Some s → WasHeardBy r s.station b }
+    ensures looked_up { (r : Running) (k : List ℕ) → RunsOver V2 r → IsLossless r → IsAtRest r
+        → HaveOnlyAsked r → HasBeenLookedUp r k }
+    ensures lossless { (r : Running) → RunsOver V2 r → AreFewHeld (transcript r)
+        → IsLossless r }
+{}
+
 /// What asking for addresses promises, in one place. If no frame is pending in a run over an image
 /// of version 2, nothing is held for a station any more, and each datagram to a station's address
 /// was taken by that station as often as it was sent, but for what was given up.
@@ -114,7 +162,7 @@ pub fn every_datagram_is_heard()
         ≡ heard r.internet s.station b (transcript r) + let_down r.internet b (transcript r) }
 {}
 
-/// What the conditions of `the_headline` mean. A broadcast request is one that a node may send; a
+/// What the conditions of these laws mean. A broadcast request is one that a node may send; a
 /// forward request and a lookup aren't, but the same data of another type are. While a frame is
 /// pending for the router, a run isn't at rest; after the router has taken the frame, it is.
 pub fn the_examples_of_conditions()
@@ -124,4 +172,18 @@ pub fn the_examples_of_conditions()
     ensures looks { ¬ OnlyAsks three_cables (sends 2 (blue 33)) }
     ensures under_way { ¬ IsAtRest (run_of underway) }
     ensures at_rest { IsAtRest (run_of ended) }
+{}
+
+/// The conditions can be met together: over an image of version 1, by the run of an echo, which
+/// reached its cable once, and its reply; and over one of version 2 without mappings, by a run in
+/// which a datagram reached the cable of an address that nobody has, and is held there.
+pub fn the_conditions_can_be_met()
+    ensures one { RunsOver V1 echoed × IsAtRest echoed × HaveOnlyAsked echoed }
+    ensures reached { (sent (echo_request 0) (transcript echoed) ≡ 1)
+        × (reached (echo_request 0) 2 (transcript echoed) ≡ 1) }
+    ensures two { RunsOver V2 held_for_nobody × IsLossless held_for_nobody
+        × IsAtRest held_for_nobody × HaveOnlyAsked held_for_nobody }
+    ensures held { (sent (plain_to 0 10 9) (transcript held_for_nobody) ≡ 1)
+        × (reached (plain_to 0 10 9) 0 (transcript held_for_nobody) ≡ 1)
+        × (length (still_held (transcript held_for_nobody)) ≡ 1) }
 {}

@@ -16,4 +16,4 @@ mod yes;
 
 pub use fault::{explain_flaw, explain_kind};
 pub use no::explain_no;
-pub use yes::explain_yes;
+pub use yes::write_yes;

@@ -69,9 +69,15 @@ fn put_job(text: &mut String, job: Job<'_>) -> Result<(), AllocError> {
 
 fn put_request(text: &mut String, request: &Request<'_>) -> Result<(), AllocError> {
     put_job(text, request.job)?;
+    for source in &request.further {
+        put_source(text, *source)?;
+    }
     put_word(text, "explain", request.explain)?;
     if request.quiet {
         write!(text, " quiet")?;
+    }
+    if request.json {
+        write!(text, " json")?;
     }
     writeln!(text)
 }

@@ -1,11 +1,11 @@
-//! The frames of a run that have replies.
+//! The frames of a transcript that have replies.
 
 ghost use Rattle.std.specs.Prelude.{IsOkUnless};
 
 use at_base::Error;
 use std::alloc::Global;
 
-/// The frames of a run that have a reply to the station that hears them.
+/// The frames of a transcript whose datagrams are replies.
 #[derive(Drop)]
 pub(crate) struct Frames {
     /// By its stamp, the number of each one's bytes.

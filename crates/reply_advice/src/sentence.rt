@@ -2,6 +2,7 @@
 
 use crate::deliveries::{Delivery, Receiver};
 use crate::said::{Said, ZonePage};
+use crate::shown::write_text;
 use at_base::Addr;
 use at_base::packet::text_at;
 use nbp::{Packet, TupleView};
@@ -25,19 +26,6 @@ fn write_receiver<W: Write>(writer: &mut W, receiver: Receiver) -> io::Result<()
         Receiver::Node(node) => write!(writer, "node {node}: "),
         Receiver::Station(address) => write!(writer, "{address}: "),
     }
-}
-
-/// Writes a text. Bytes that could mean something to a terminal, or belong to another character
-/// set than the terminal's, are written as `\x8E`, and so is the backslash.
-fn write_text<W: Write>(writer: &mut W, text: &[u8]) -> io::Result<()> {
-    for byte in text {
-        match *byte {
-            b'\\' => writer.write_all(b"\\x5C")?,
-            0x20..=0x7E => writer.write_all(&[*byte])?,
-            _ => write!(writer, "\\x{byte:02X}")?,
-        }
-    }
-    Ok(())
 }
 
 /// Writes where each name was found.

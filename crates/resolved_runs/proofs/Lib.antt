@@ -12,6 +12,8 @@ pub mod Walks
 pub mod Refused
 pub mod Excluded
 pub mod NotLost
+pub mod Rings
+pub mod RingsExclude
 pub mod Elements
 pub mod Told
 pub mod Plains

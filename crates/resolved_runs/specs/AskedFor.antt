@@ -75,9 +75,11 @@ AreHeardOrOnTheirWay i t =
     (b : List ℕ) (c : ℕ) (s : Seat) → seat_at i c (target b) ≡ Some s
     → sent b t ≡ heard i s.station b t + on_its_way i b t + let_down i b t
 
--- Where no frame is pending, each body to a station's address was taken by that station, or given up, as often as it was
--- sent.
+-- Each body to a station's address was taken by that station, or given up, as often as it was sent.
+abbrev pub AreHeardAtRest : Internet → List Entry → Type 0
+AreHeardAtRest i t =
+    (b : List ℕ) (c : ℕ) (s : Seat) → seat_at i c (target b) ≡ Some s → sent b t ≡ heard i s.station b t + let_down i b t
+
+-- So it is where no frame is pending.
 abbrev pub AreHeard : Internet → List Entry → Type 0
-AreHeard i t =
-    pending (cable_seats i) t ≡ [] → (b : List ℕ) (c : ℕ) (s : Seat) → seat_at i c (target b) ≡ Some s
-    → sent b t ≡ heard i s.station b t + let_down i b t
+AreHeard i t = pending (cable_seats i) t ≡ [] → AreHeardAtRest i t

@@ -10,7 +10,7 @@ use Rattle.legal_runs.specs.Example.{echo_request, framed, plain}
 use Rattle.legal_runs.specs.Illegal.{red_forward, to_unlisted}
 use Rattle.legal_runs.specs.LookupExample.{blue_forward, blue_lookup, blue_request, to_blue}
 use Rattle.legal_runs.specs.Requests.{key_in, request}
-use Rattle.resolved_runs.specs.Example.{asking, held, packet_bytes, resolved_echo, telling}
+use Rattle.resolved_runs.specs.Example.{asking, full_ring, held, packet_bytes, resolved_echo, resolved_to_nobody, telling}
 
 -- ---- Conservation
 
@@ -195,3 +195,21 @@ held_for_nobody = Sent 2 (plain 0 10 1) ∷ held 0 0 2 10 9 (plain 0 10 1) ∷ [
 -- The router takes a datagram for the printer, and puts nothing.
 abbrev pub heard_by_another : List Entry
 heard_by_another = Sent 2 (echo_request 0) ∷ framed 0 0 2 1 (echo_request 0) ∷ Took 0 0 ∷ []
+
+-- ---- Held as often as reached, and given up
+
+-- A datagram to 10.9, which nobody has, reached its cable once and is held twice.
+abbrev pub held_there_twice : List Entry
+held_there_twice = take 10 resolved_to_nobody ++ held 4 0 0 10 9 (plain 4 10 9) ∷ []
+
+-- A datagram is given up though no other is held.
+abbrev pub lost_at_once : List Entry
+lost_at_once = one_held ++ Lost 0 ∷ []
+
+-- Of sixteen datagrams the newest is given up when one more is held.
+abbrev pub newest_given_up : List Entry
+newest_given_up = take 35 full_ring ++ Lost 16 ∷ []
+
+-- The oldest of sixteen is given up, but after the request that follows the further one.
+abbrev pub given_up_later : List Entry
+given_up_later = take 35 full_ring ++ asking 18 0 2 5 10 7 1 ∷ Lost 0 ∷ []

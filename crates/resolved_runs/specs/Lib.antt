@@ -8,6 +8,7 @@ pub mod ResolvedLaws
 pub mod HeldChains
 pub mod AskedFor
 pub mod Lossless
+pub mod Rings
 pub mod Plain
 pub mod Example
 pub mod Illegal

@@ -1,7 +1,8 @@
 //! Laws of transcripts in which stations resolve addresses, for use by other crates. The functions
 //! do nothing: each law is the function's ensures clause.
 
-ghost use Rattle.std.specs.Prelude.{◌≡◌, ◌++◌, ◌∷◌, [], List, drop, false, length, take, ℕ};
+ghost use Rattle.std.specs.Prelude.{◌≡◌, ◌≤◌, ◌++◌, ◌∷◌, [], List, drop, false, length, take, ℕ};
+ghost use Rattle.at_base.specs.Limits.{max_held};
 ghost use Rattle.table_image.specs.Internet.{Internet};
 ghost use Rattle.audit.specs.Rules.{Passes};
 ghost use Rattle.cable_model.specs.Holdings.{still_held};
@@ -35,7 +36,8 @@ ghost use Rattle.resolved_runs.specs.Excluded.{held_and_elsewhere, held_and_put,
 ghost use Rattle.resolved_runs.specs.Excluded.{held_with_hops, not_forwarded, one_held, one_stamp};
 ghost use Rattle.resolved_runs.specs.Excluded.{held_twice, own_held, released_from_afar};
 ghost use Rattle.resolved_runs.specs.Excluded.{released_twice, released_with_hops};
-ghost use Rattle.resolved_runs.specs.Excluded.{own_given_up, request_given_up};
+ghost use Rattle.resolved_runs.specs.Excluded.{given_up_later, held_there_twice, lost_at_once};
+ghost use Rattle.resolved_runs.specs.Excluded.{newest_given_up, own_given_up, request_given_up};
 ghost use Rattle.resolved_runs.specs.Excluded.{request_held_and_put, request_taken_from_afar};
 ghost use Rattle.resolved_runs.specs.Excluded.{unlisted_and_dropped, unlisted_and_reached};
 ghost use Rattle.resolved_runs.specs.Excluded.{unlisted_out_of_hops, vanished};
@@ -50,9 +52,11 @@ ghost use Rattle.resolved_runs.specs.Illegal.{put_twice, put_unmapped, reached_a
 ghost use Rattle.resolved_runs.specs.Illegal.{second_given_up};
 ghost use Rattle.resolved_runs.specs.Lossless.{IsNothingGivenUp, is_loss};
 ghost use Rattle.resolved_runs.specs.Plain.{plain};
+ghost use Rattle.resolved_runs.specs.Resolved.{held_at};
 ghost use Rattle.resolved_runs.specs.ResolvedLaws.{HasHopsLeftResolved, IsConservedResolved};
 ghost use Rattle.resolved_runs.specs.ResolvedLaws.{IsLookedUpResolved};
 ghost use Rattle.resolved_runs.specs.ResolvedRuns.{IsLegalResolved};
+ghost use Rattle.resolved_runs.specs.Rings.{AreFewHeld, AreHeldAsReached, AreShed};
 
 /// Where every hardware address is known, the fate of a datagram is that of a plain run.
 pub fn plain_legs_have_plain_fates()
@@ -106,6 +110,19 @@ pub fn held_datagrams_are_asked_for()
 /// those without.
 pub fn nothing_is_given_up_without_losses()
     ensures { (i : Internet) (t : List Entry) → count is_loss t ≡ 0 → IsNothingGivenUp i t }
+{}
+
+/// When stations hold datagrams, and give them up. A datagram is held for the station that it is
+/// addressed to once for each time that it reached its cable. A station holds at most sixteen
+/// datagrams on a cable; what is given up is the oldest of sixteen, directly after one more was held
+/// there. So where no station holds seventeen on a cable at once, nothing is given up.
+pub fn full_rings_give_up_their_oldest()
+    ensures reached { (i : Internet) (t : List Entry) → IsLegalResolved i t → AreHeldAsReached t }
+    ensures most { (i : Internet) (t : List Entry) (station cable : ℕ) → IsLegalResolved i t
+        → length (held_at t station cable) ≤ max_held }
+    ensures oldest { (i : Internet) (t : List Entry) → IsLegalResolved i t → AreShed t }
+    ensures none { (i : Internet) (t : List Entry) → IsLegalResolved i t → AreFewHeld t
+        → IsNothingGivenUp i t }
 {}
 
 /// Heard. Each body to a station's address was taken by that station, is on its way in frames or
@@ -227,8 +244,10 @@ pub fn they_are_legal_without_mistakes()
 /// held with; one held on another cable than that of the walk's step; a request for names that is
 /// held and in a frame; a forward request that is missing, that is held and in a frame, or that is
 /// held, in a frame or given up for a cable that doesn't list the zone, and a lookup there; two
-/// datagrams held with one stamp, one held twice, and one released twice; one that is held and
-/// isn't asked for, but another address is, or another station asks, or the request is a datagram,
+/// datagrams held with one stamp, one held twice, and one released twice; one for an address that
+/// nobody has that reached its cable once and is held twice; one given up where no other is held, the
+/// newest and the second oldest of sixteen given up, and the oldest given up later than it must be;
+/// one that is held and isn't asked for, but another address is, or another station asks, or the request is a datagram,
 /// or the answer tells another address, or is another station's, or the request is on another
 /// cable; one given up of seventeen, and a request for names, a forward request and a datagram to a
 /// router's own address that were given up; one that was heard and is held, one heard or on its way
@@ -261,6 +280,9 @@ pub fn laws_exclude_with_resolution()
         × (¬ IsLookedUpResolved unmapped forward_given_up_elsewhere blue_key) }
     ensures once { (¬ AreHeldOnce one_stamp) × (¬ AreHeldOnce held_twice) }
     ensures put_once { ¬ ArePutOnce released_twice }
+    ensures reached { ¬ AreHeldAsReached held_there_twice }
+    ensures shed { (¬ AreShed lost_at_once) × (¬ AreShed newest_given_up)
+        × (¬ AreShed second_given_up) × (¬ AreShed given_up_later) }
     ensures asked { (¬ AreAskedFor unmapped one_held) × (¬ AreAskedFor unmapped asked_for_another)
         × (¬ AreAskedFor unmapped asked_by_another) × (¬ AreAskedFor unmapped asked_in_a_datagram)
         × (¬ AreAskedFor unmapped another_told) × (¬ AreAskedFor unmapped told_by_another)

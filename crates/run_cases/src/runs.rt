@@ -1,12 +1,21 @@
 //! Runs over frozen tables.
 
+ghost use Rattle.std.specs.Prelude.{◌≡◌, IfOk, List, Some, true, ℕ};
+ghost use Rattle.audit.specs.Routing.{home};
+ghost use Rattle.ddp.specs.Bodies.{target};
+ghost use Rattle.frozen.specs.Promises.{HaveOnlyAsked};
+ghost use Rattle.frozen.specs.Runs.{RunsOver};
+ghost use Rattle.frozen.specs.Sentence.{HasBeenLookedUp, HasReached, IsLossless, WasHeardBy};
+ghost use Rattle.table_image.specs.Seats.{Seat, seat_at};
+ghost use Rattle.table_image.specs.declared.version.Version.TheVariants.{V1, V2};
+
 use crate::entries::put_trace;
 use crate::scripts::steps;
 use at_base::Error;
 use cable_model::Entry;
 use case_words::{Answer, Stop, Words, put_line, yes_or_no};
 use events::Event;
-use frozen::Frozen;
+use frozen::{Frozen, what_a_yes_promises, what_a_yes_promises_with_resolution};
 use rtmp::RouteTable;
 use script::{Step, read};
 use std::alloc::Global;
@@ -33,13 +42,29 @@ fn taken<T: RouteTable>(run: &Frozen<T>) -> u32 {
     taken
 }
 
+/// Takes pending frames, at most so many. Where none is left, the run has what a yes promises of it.
+fn rest<T: RouteTable>(run: &mut Frozen<T>, most: u32) -> Result<bool, Error>
+    ensures reached { IfOk result (λ none_left. none_left ≡ true → RunsOver V1 run.new
+        → (b : List ℕ) (c : ℕ) → home run.new.internet (target b).net ≡ Some c
+        → HasReached run.new b c) }
+    ensures heard { IfOk result (λ none_left. none_left ≡ true → RunsOver V2 run.new
+        → IsLossless run.new → (b : List ℕ) (c : ℕ) (s : Seat)
+        → seat_at run.new.internet c (target b) ≡ Some s → WasHeardBy run.new s.station b) }
+    ensures looked_up { IfOk result (λ none_left. none_left ≡ true → RunsOver V1 run.new
+        → HaveOnlyAsked run.new → (k : List ℕ) → HasBeenLookedUp run.new k) }
+{
+    what_a_yes_promises();
+    what_a_yes_promises_with_resolution();
+    run.drain(most)
+}
+
 /// Drains a run. The takes before one that ran out of memory stay, so the rest follows.
 fn drain<T: RouteTable>(run: &mut Frozen<T>, most: u32) -> Result<bool, Error> {
     let before = taken(run);
-    match run.drain(most) {
+    match rest(run, most) {
         Err(Error::Memory) => {
             let done = taken(run).saturating_sub(before);
-            run.drain(most.saturating_sub(done))
+            rest(run, most.saturating_sub(done))
         }
         answer => answer,
     }

@@ -30,19 +30,19 @@ returns-in_err-matches-clause-alone_err g c = λ short.
     ∙ none_taken texts (short_map g.S.AsStr.text c.args.arguments.now short)) in
     search rules
 
-pub returns-clause-alone : goal.returns-clause-alone
-returns-clause-alone g c = λ short.
+pub returns-in-Ok-clause-alone : goal.returns-in-Ok-clause-alone
+returns-in-Ok-clause-alone g c = λ short.
     let texts = map g.S.AsStr.text c.args.arguments.now in
     let app = c.in_ok-atalk_command.ensures in
-    c.request_of.ensures.none ((c.in_ok-matches.ensures.matches (ap is_simple app ∙ simple)).1
+    c.in-Ok.ensures.none ((c.in_ok-matches.ensures.matches (ap is_simple app ∙ simple)).1
     ∙ ap (λ (a : App). subcommand_of a texts) app ∙ none_entered texts (short_map g.S.AsStr.text c.args.arguments.now short))
 
-pub returns-clause-meant : goal.returns-clause-meant
-returns-clause-meant g c =
+pub returns-in-Ok-clause-meant : goal.returns-in-Ok-clause-meant
+returns-in-Ok-clause-meant g c =
     let texts = map g.S.AsStr.text c.args.arguments.now in
     let app = c.in_ok-atalk_command.ensures in
     let met = (c.in_ok-matches.ensures.matches (ap is_simple app ∙ simple)).1 ∙ ap (λ (a : App). subcommand_of a texts) app in
-    subst (λ (rows : Option (Text × List Row)). IsRequest rows c.request_of.result) met c.request_of.ensures.meant
+    subst (λ (rows : Option (Text × List Row)). IsRequest rows c.in-Ok.request) met c.in-Ok.ensures.meant
 
 pub returns-in_err-matches-clause-kinds : goal.returns-in_err-matches-clause-kinds
 returns-in_err-matches-clause-kinds g c =
@@ -53,8 +53,8 @@ returns-in_err-matches-clause-kinds g c =
     let stop = err_from_is_err_and c.from_residual-in_err-matches.result c.from_residual-in_err-matches.ensures.1 in
     rw (stop.1, stop.2) kinds
 
-pub returns-clause-kinds : goal.returns-clause-kinds
-returns-clause-kinds g c =
+pub returns-in-Ok-clause-kinds : goal.returns-in-Ok-clause-kinds
+returns-in-Ok-clause-kinds g c =
     let app = c.in_ok-atalk_command.ensures in
     let texts = map g.S.AsStr.text c.args.arguments.now in
     ap (λ (a : App). fault_of a texts) (sym app) ∙ c.in_ok-matches.ensures.kinds (ap is_simple_and_free app ∙ simple_and_free)
@@ -70,12 +70,12 @@ returns-in_err-matches-clause-written_err g c = λ name form named operands.
     let memory = c.in_err-matches.ensures.passes (ap₂ takes c.in_ok-atalk_command.ensures named ∙ form_taken form name operands) in
     search rules
 
-pub returns-clause-written : goal.returns-clause-written
-returns-clause-written g c = λ name form named operands.
+pub returns-in-Ok-clause-written : goal.returns-in-Ok-clause-written
+returns-in-Ok-clause-written g c = λ name form named operands.
     let app = c.in_ok-atalk_command.ensures in
     let met = (c.in_ok-matches.ensures.matches (ap is_simple app ∙ simple)).1 ∙ ap₂ subcommand_of app named in
-    form_meant form name c.request_of.result.job operands
-    (subst (λ (rows : Option (Text × List Row)). IsMeant rows c.request_of.result.job) met c.request_of.ensures.meant.0)
+    form_meant form name c.in-Ok.request.job operands
+    (subst (λ (rows : Option (Text × List Row)). IsMeant rows c.in-Ok.request.job) met c.in-Ok.ensures.meant.0)
 
 pub returns-in_err-matches-clause-about : goal.returns-in_err-matches-clause-about
 returns-in_err-matches-clause-about g c = λ name about named.
@@ -84,8 +84,8 @@ returns-in_err-matches-clause-about g c = λ name about named.
     let kinds = only_kind _ _ _ fault (c.in_err-matches.ensures.kinds (ap is_simple_and_free app ∙ simple_and_free)) in
     search rules
 
-pub returns-clause-about : goal.returns-clause-about
-returns-clause-about g c = λ name about named.
+pub returns-in-Ok-clause-about : goal.returns-in-Ok-clause-about
+returns-in-Ok-clause-about g c = λ name about named.
     let app = c.in_ok-atalk_command.ensures in
     let fault = fault_is _ _ _ _ app named (about_asked about name) in
     let none = c.in_ok-matches.ensures.kinds (ap is_simple_and_free app ∙ simple_and_free) in

@@ -12,6 +12,7 @@ use Rattle.resolved_runs.proofs.Excluded.{not_in_a_datagram, not_many_hops, not_
 use Rattle.resolved_runs.proofs.Excluded.{not_released_twice, not_released_with_hops, not_request_held_and_put, not_taken_from_afar, not_twice}
 use Rattle.resolved_runs.proofs.Excluded.{not_elsewhere, not_nothing, not_told_by_another, not_unlisted_and_dropped}
 use Rattle.resolved_runs.proofs.Excluded.{not_unlisted_and_reached, not_vanished}
+use Rattle.resolved_runs.proofs.RingsExclude.{not_at_once, not_held_there_twice, not_later, not_newest, not_second}
 
 pub returns : goal.returns
 returns c = record {
@@ -27,6 +28,8 @@ returns c = record {
   looked = (never_forwarded, not_forward_held_and_put, not_looked_elsewhere, not_forward_elsewhere, not_forward_held_elsewhere, not_forward_given_up_elsewhere);
   once = (not_once, not_twice);
   put_once = not_released_twice;
+  reached = not_held_there_twice;
+  shed = (not_at_once, not_newest, not_second, not_later);
   asked = (not_asked, not_for_another, not_by_another, not_in_a_datagram, not_another_told, not_told_by_another, not_elsewhere);
   given_up = (not_nothing, no_request_given_up, no_forward_given_up, no_body_given_up);
   heard = (

@@ -5,13 +5,13 @@ use Rattle.ddp.specs.Datagram.{datagram_of}
 use Rattle.frozen.proofs.Asked.{request_of}
 use Rattle.frozen.proofs.Asking.{sent_asks}
 use Rattle.frozen.proofs.Fair.{sent_whole}
-use Rattle.frozen.proofs.Keeps.{sent_keeps}
+use Rattle.frozen.proofs.Keeps.{sent_block, sent_keeps}
 use Rattle.frozen.proofs.Refused.{of_both}
 use Rattle.frozen.proofs.Seats.{on_seated, seated_cable}
 use Rattle.frozen.specs.Events.{SentBy}
 use Rattle.frozen.specs.Orders.{IsFair, bytes_for}
 use Rattle.frozen.specs.Promises.{HaveOnlyAsked}
-use Rattle.frozen.specs.Runs.{IsFrozen, Running}
+use Rattle.frozen.specs.Runs.{AddsBlock, IsFrozen, Running}
 use Rattle.legal_runs.specs.Legs.{places_of}
 use Rattle.legal_stations.proofs.Making.{IsSent}
 use Rattle.legal_runs.proofs.Frames.{whole}
@@ -115,3 +115,23 @@ returns-in-Ok-clause-asks g c = λ only asks.
     }) before asks)
     (λ same. subst HaveOnlyAsked
     (ap (λ k. record { internet = i; stations = c.self.inside.stations.items; wiring = k }) (sym same)) before)
+
+pub returns-in-Ok-clause-block : goal.returns-in-Ok-clause-block
+returns-in-Ok-clause-block g c =
+    let o = c.args.order.now in
+    let i = c.self.inside.places in
+    let payload = c.args.payload.now in
+    let fair = subst (λ (r : Running). IsFair r.internet o) (sym c.self.view_is) c.requires.fair in
+    let each = subst (λ b. IsTrue (are_bytes b)) c.as_slice.ensures c.slices_have_bytes.ensures in
+    let sent : IsSent o.header payload = sent_whole o.header payload c.in-Ok.bytes c.in-Ok.ensures.written each in
+    let old : Running = record { internet = i; stations = c.self.inside.stations.items; wiring = c.self.inside.wiring } in
+    let new : Running = record { internet = i; stations = c.self.inside.stations.items; wiring = c.send.new.self } in
+    on_ok_weaker c.send.result
+    (λ went. subst (λ (r : Running). AddsBlock r new) c.self.view_is
+    (sent_block old new o payload c.self.invariant.0 fair sent (record {
+      internet = refl;
+      stations = refl;
+      sent =
+          subst (λ b. IsSentOn (places_of i) o.station o.cable o.next b c.self.inside.wiring c.send.new.self)
+          c.in-Ok.ensures.written.1 went;
+    }))) c.send.ensures.sent

@@ -1,13 +1,14 @@
 use Rattle.std.proofs.Common.{◌≡◌, ap, sym, subst, length, ◌+◌, ◌∙◌, IfErr, refl, ◌⊎◌, Some, None}
 use Rattle.std.specs.List.{list_any}
+use Rattle.std.proofs.lemmas.Result.{on_ok_weaker}
 use Rattle.at_base.specs.declared.error.Error.TheVariants.{Memory}
 use Rattle.cable_model.specs.Outcomes.{AreSeatsOf, is_named}
 use Rattle.frozen.proofs.Asking.{took_asks}
-use Rattle.frozen.proofs.Keeps.{took_keeps}
+use Rattle.frozen.proofs.Keeps.{took_block, took_keeps}
 use Rattle.frozen.proofs.Refused.{both_err, of_both, refused_so}
 use Rattle.frozen.proofs.Seats.{seats_of_station}
 use Rattle.frozen.specs.Promises.{HaveOnlyAsked}
-use Rattle.frozen.specs.Runs.{IsFrozen, Running, TakenFrom, ports_of, take_refusal}
+use Rattle.frozen.specs.Runs.{AddsBlock, IsFrozen, Running, TakenFrom, ports_of, take_refusal}
 use Rattle.legal_runs.specs.Legs.{places_of}
 use Rattle.run_cables.specs.Wired.{cabling_of, pending_for, take_room}
 use Rattle.frozen.proofs.frozen.Frozen.take.Goals as goal
@@ -68,3 +69,12 @@ returns-clause-asks g c = λ only.
     (λ same. subst HaveOnlyAsked
     (ap (λ k. record { internet = c.self.inside.places; stations = c.self.inside.stations.items; wiring = k }) (sym same.0)
     ∙ ap (λ s. record { internet = c.self.inside.places; stations = s; wiring = c.take.new.wiring }) (sym same.1)) before)
+
+pub returns-clause-block : goal.returns-clause-block
+returns-clause-block g c =
+    let i = c.self.inside.places in
+    let old : Running = record { internet = i; stations = c.self.inside.stations.items; wiring = c.self.inside.wiring } in
+    let new : Running = record { internet = i; stations = c.take.new.stations.items; wiring = c.take.new.wiring } in
+    on_ok_weaker c.take.result
+    (λ taken. subst (λ (r : Running). AddsBlock r new) c.self.view_is
+    (took_block old new c.args.stamp c.args.station c.self.invariant.0 (record { internet = refl; taken = taken }))) c.take.ensures.ok
