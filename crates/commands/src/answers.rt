@@ -77,3 +77,11 @@ pub fn answer_of<A: Answer>(worked: &Result<A, Refused>) -> Result<bool, Error>
         Err(refused) => Err(refused.error),
     }
 }
+
+/// The answer of a command, as by `answer_of`, which lets go of all else that it worked out.
+pub fn into_answer<A: Answer + Drop>(worked: Result<A, Refused>) -> Result<bool, Error>
+    ensures yes { IfOk worked (λ it. result ≡ Ok (A.yes it)) }
+    ensures error { IfErr worked (λ r. result ≡ Err r.error) }
+{
+    answer_of(&worked)
+}

@@ -16,7 +16,7 @@ mod showing;
 mod text_input;
 mod tracing;
 
-pub use answers::{Answer, answer_of};
+pub use answers::{Answer, answer_of, into_answer};
 pub use auditing::{Judged, audit_file};
 pub use image_input::read_image;
 pub use making::make_bytes;

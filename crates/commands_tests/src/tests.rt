@@ -13,7 +13,7 @@ mod tables;
 mod tracing;
 
 use at_base::{Cause, Error, Part};
-use commands::{READS, answer_of, append, audit_file, read_image};
+use commands::{READS, append, audit_file, into_answer, read_image};
 use fakes::{Endless, Frail, Holding, Pieces, Places, Restless};
 use reading::read_all;
 use std::alloc::Global;
@@ -191,7 +191,7 @@ fn audit_once<R: Read + Drop>(
     room: &mut [u8],
 ) -> Result<bool, Error> {
     let mut output = Output::new(alloc, room);
-    answer_of(&audit_file(alloc, &mut reader, &mut output))
+    into_answer(audit_file(alloc, &mut reader, &mut output))
 }
 
 /// As `audit_once`, with another call if an allocation failed.
@@ -256,7 +256,7 @@ fn audit_after_failures(alloc: Global) -> Result<bool, Error> {
     let mut room = [0u8; 80];
     let mut output = Output::new(alloc, room.as_mut_slice());
     output.faults = 1;
-    answer_of(&audit_file(alloc, &mut Pieces::new(EMPTY, 3), &mut output))
+    into_answer(audit_file(alloc, &mut Pieces::new(EMPTY, 3), &mut output))
 }
 
 #[test]

@@ -3,7 +3,7 @@
 use at_base::Error;
 use case_words::{Answer, Stop, Words, put_line};
 use command_line::status;
-use commands::{answer_of, audit_file, play_bytes, run_frozen};
+use commands::{audit_file, into_answer, play_bytes, run_frozen};
 use frozen_trace::Refusals;
 use playing::{Played, Silent, lines_of, play as play_plan, read_plan};
 use std::alloc::{AllocError, Global};
@@ -39,11 +39,30 @@ fn played(alloc: Global, bytes: &[u8], version: Option<Version>) -> Result<Playe
     }
 }
 
+/// The lines of a play, and the bytes of its image.
+fn told(alloc: Global, played: &Played) -> Result<(Vec<u8>, Vec<u8>), Error> {
+    let lines = lines_of(alloc, played)?;
+    Ok((lines, write(alloc, &played.image)?.into_vec()))
+}
+
+/// The lines of the play of a file, and the bytes of its image. The play is let go of in one place.
+fn play_told(
+    alloc: Global,
+    bytes: &[u8],
+    version: Option<Version>,
+) -> Result<(Vec<u8>, Vec<u8>), Stop> {
+    let played = played(alloc, bytes, version)?;
+    match told(alloc, &played) {
+        Ok(told) => Ok(told),
+        Err(error) => Err(error.into()),
+    }
+}
+
 /// Appends the lines of the play of a file, and returns the resulting image.
 pub(crate) fn play(alloc: Global, bytes: &[u8], text: &mut String) -> Result<Vec<u8>, Stop> {
-    let played = played(alloc, bytes, None)?;
-    put_ascii(text, lines_of(alloc, &played)?.as_slice())?;
-    Ok(write(alloc, &played.image)?.into_vec())
+    let (lines, image) = play_told(alloc, bytes, None)?;
+    put_ascii(text, lines.as_slice())?;
+    Ok(image)
 }
 
 /// Appends the image that results from the play of a file, in a version if one is asked for.
@@ -53,8 +72,8 @@ pub(crate) fn frozen(
     version: Option<Version>,
     text: &mut String,
 ) -> Answer {
-    let played = played(alloc, bytes, version)?;
-    put_line(text, write(alloc, &played.image)?.as_slice())?;
+    let (_, image) = play_told(alloc, bytes, version)?;
+    put_line(text, image.as_slice())?;
     Ok(())
 }
 
@@ -62,7 +81,7 @@ pub(crate) fn frozen(
 pub(crate) fn audit(alloc: Global, image: &[u8], text: &mut String) -> Answer {
     let mut input = image;
     let mut output = Output::new(alloc, Vec::with_capacity(alloc, ROOM)?);
-    let answer = answer_of(&audit_file(alloc, &mut input, &mut output));
+    let answer = into_answer(audit_file(alloc, &mut input, &mut output));
     if answer == Err(Error::Memory) {
         return Err(Error::Memory.into());
     }
@@ -79,7 +98,7 @@ fn traced(
     let mut image = image;
     let mut script = script;
     let mut output = Output::new(alloc, Vec::with_capacity(alloc, ROOM)?);
-    let answer = answer_of(&run_frozen(
+    let answer = into_answer(run_frozen(
         alloc,
         &mut image,
         &mut script,
@@ -153,7 +172,7 @@ pub(crate) fn play_files(
     let mut input = bytes;
     let mut output = Output::new(alloc, Vec::with_capacity(alloc, ROOM)?);
     let mut image = Output::new(alloc, Vec::with_capacity(alloc, ROOM)?);
-    let answer = answer_of(&play_bytes(
+    let answer = into_answer(play_bytes(
         alloc,
         &mut input,
         &mut output,

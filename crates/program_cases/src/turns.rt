@@ -3,7 +3,7 @@
 use crate::mishaps::{Kept, Mishap, Pieces, Turn};
 use at_base::Error;
 use case_words::{Answer, Stop, Words};
-use commands::{answer_of, audit_file, play_bytes, run_frozen};
+use commands::{audit_file, into_answer, play_bytes, run_frozen};
 use frozen_trace::Refusals;
 use playing::Silent;
 use std::alloc::Global;
@@ -89,7 +89,7 @@ impl Course {
     fn audit(&self, alloc: Global, image: &[u8]) -> Result<Ran, Stop> {
         let mut input = self.reader(image, Stream::Input);
         let mut output = self.writer(alloc, Stream::Lines)?;
-        let answer = answer_of(&audit_file(alloc, &mut input, &mut output));
+        let answer = into_answer(audit_file(alloc, &mut input, &mut output));
         Ok(Ran {
             answer,
             calls: self.calls(input.calls, 0, output.writer.calls, 0),
@@ -102,7 +102,7 @@ impl Course {
         let mut input = self.reader(image, Stream::Input);
         let mut script = self.reader(script, Stream::Script);
         let mut output = self.writer(alloc, Stream::Lines)?;
-        let answer = answer_of(&run_frozen(
+        let answer = into_answer(run_frozen(
             alloc,
             &mut input,
             &mut script,
@@ -121,7 +121,7 @@ impl Course {
         let mut input = self.reader(text, Stream::Input);
         let mut output = self.writer(alloc, Stream::Lines)?;
         let mut image = self.writer(alloc, Stream::Image)?;
-        let answer = answer_of(&play_bytes(
+        let answer = into_answer(play_bytes(
             alloc,
             &mut input,
             &mut output,

@@ -4,7 +4,7 @@ use super::EMPTY;
 use super::fakes::{Frail, Pieces};
 use super::plays::SMALL;
 use at_base::Error;
-use commands::{answer_of, capture_play, capture_run};
+use commands::{capture_play, capture_run, into_answer};
 use frozen_trace::Refusals;
 use playing::Silent;
 use std::alloc::Global;
@@ -43,7 +43,7 @@ fn play(alloc: Global, read: Option<u32>, lines_fail_at: u32, capture_fails_at: 
     let mut lines = frail(alloc, lines_fail_at);
     let mut image = frail(alloc, NEVER);
     let mut capture = frail(alloc, capture_fails_at);
-    let answer = answer_of(&capture_play(
+    let answer = into_answer(capture_play(
         alloc,
         &mut text,
         &mut lines,
@@ -71,7 +71,7 @@ fn trace(alloc: Global, read: Option<u32>, lines_fail_at: u32, capture_fails_at:
         &mut capture,
         &mut Refusals::new(alloc),
     );
-    let answer = answer_of(&traced);
+    let answer = into_answer(traced);
     came_to(answer, lines.writer.calls, capture.writer.calls)
 }
 

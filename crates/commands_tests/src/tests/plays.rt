@@ -3,7 +3,7 @@
 use super::fakes::{Frail, Holding, Pieces};
 use super::holds;
 use at_base::Error;
-use commands::{answer_of, play_bytes};
+use commands::{into_answer, play_bytes};
 use playing::Silent;
 use std::alloc::Global;
 use std::io::Write;
@@ -50,7 +50,7 @@ fn play_once<W: Write + Drop, I: Write + Drop>(
     let mut input = text;
     let mut output = Output::new(alloc, lines);
     let mut image = Output::new(alloc, image);
-    answer_of(&play_bytes(
+    into_answer(play_bytes(
         alloc,
         &mut input,
         &mut output,
@@ -83,7 +83,7 @@ fn flushes(alloc: Global) -> Result<bool, Error> {
     let mut input = pieces(EARLY);
     let mut output = Output::new(alloc, Holding::new());
     let mut image = Output::new(alloc, Holding::new());
-    let answer = answer_of(&play_bytes(
+    let answer = into_answer(play_bytes(
         alloc,
         &mut input,
         &mut output,
@@ -168,7 +168,7 @@ fn play_unwritten(alloc: Global) -> (Result<bool, Error>, u32) {
     };
     let mut output = Output::new(alloc, lines);
     let mut image = Output::new(alloc, whole);
-    let answer = answer_of(&play_bytes(
+    let answer = into_answer(play_bytes(
         alloc,
         &mut input,
         &mut output,

@@ -4,7 +4,7 @@
 use super::fakes::{Frail, Holding, Pieces};
 use super::{EMPTY, holds};
 use at_base::{Cause, Error, Part};
-use commands::{Refused, answer_of, draw_image, make_bytes, show_image};
+use commands::{Refused, answer_of, draw_image, into_answer, make_bytes, show_image};
 use std::alloc::{AllocError, Global};
 use std::io::Write;
 use text::Output;
@@ -37,7 +37,7 @@ fn make_once<W: Write + Drop, I: Write + Drop>(
 ) -> Result<bool, Error> {
     let mut output = Output::new(alloc, lines);
     let mut image = Output::new(alloc, image);
-    answer_of(&make_bytes(alloc, &mut text, &mut output, &mut image))
+    into_answer(make_bytes(alloc, &mut text, &mut output, &mut image))
 }
 
 /// As `make_once`, into buffers, with another call if an allocation failed.
@@ -144,7 +144,7 @@ fn make_unwritten(alloc: Global) -> (Result<bool, Error>, u32) {
     };
     let mut output = Output::new(alloc, lines);
     let mut image = Output::new(alloc, whole);
-    let answer = answer_of(&make_bytes(alloc, &mut input, &mut output, &mut image));
+    let answer = into_answer(make_bytes(alloc, &mut input, &mut output, &mut image));
     (answer, image.writer.calls)
 }
 

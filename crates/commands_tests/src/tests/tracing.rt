@@ -3,7 +3,7 @@
 use super::fakes::{Frail, Pieces};
 use super::{EMPTY, holds};
 use at_base::Error;
-use commands::{answer_of, run_frozen};
+use commands::{into_answer, run_frozen};
 use frozen_trace::Refusals;
 use std::alloc::Global;
 use std::io::Write;
@@ -18,7 +18,7 @@ fn trace_once<W: Write + Drop>(
 ) -> Result<bool, Error> {
     let mut output = Output::new(alloc, writer);
     let mut refusals = Refusals::new(alloc);
-    answer_of(&run_frozen(alloc, &mut image, &mut script, &mut output, &mut refusals))
+    into_answer(run_frozen(alloc, &mut image, &mut script, &mut output, &mut refusals))
 }
 
 /// As `trace_once`, into `room`, with another call if an allocation failed.
