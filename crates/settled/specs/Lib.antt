@@ -1,0 +1,4 @@
+pub mod Offers
+pub mod Settling
+pub mod Moved
+pub mod Exchange

@@ -1,0 +1,45 @@
+//! Laws of internets that pass the audit and are settled. Each is the contract of a function that
+//! does nothing.
+
+ghost use Rattle.std.specs.Prelude.{◌≡◌, ◌∷◌, ℕ, List, Some, false, slice_get};
+ghost use Rattle.audit.specs.Rules.{Passes};
+ghost use Rattle.settled.specs.Exchange.{AreMoments, Tables, with_tables};
+ghost use Rattle.settled.specs.Moved.{IsMovedTo};
+ghost use Rattle.settled.specs.Offers.{IsOfferedByNext};
+ghost use Rattle.settled.specs.Settling.{IsSettled};
+ghost use Rattle.table_image.specs.Bounds.{IsBounded};
+ghost use Rattle.table_image.specs.Internet.{Internet};
+ghost use Rattle.table_image.specs.Rows.{is_direct};
+ghost use Rattle.table_image.specs.declared.router.Router.{Router};
+ghost use Rattle.table_image.specs.declared.row.Row.{Row};
+
+/// The next router of each row that isn't direct has a port on the cable of the row's port, and
+/// offers the row's range there, one nearer than the row.
+pub fn next_routers_offer()
+    ensures { (i : Internet) (r k : ℕ) (router : Router) (row : Row) → Passes i → IsSettled i
+        → slice_get i.routers r ≡ Some router → slice_get router.rows k ≡ Some row
+        → is_direct row ≡ false → IsOfferedByNext i router row }
+{}
+
+/// An internet passes as before where rows became others: each keeps its range and its distance, is
+/// usable, and leads to another router that is one nearer.
+pub fn what_moves_passes()
+    ensures { (before after : Internet) → Passes before → IsMovedTo before after → Passes after }
+{}
+
+/// So it stays settled, too.
+pub fn what_moves_is_settled()
+    ensures { (before after : Internet)
+        → Passes before → IsSettled before → IsMovedTo before after → IsSettled after }
+{}
+
+/// Routers of an internet that passes and is settled hear routing data of each other, as they send
+/// it from their rows now or sent it from earlier ones, or age their rows while all that aren't
+/// direct are Good: after any list of such steps the internet with their rows passes and is
+/// settled, and each row has its range and its distance as before.
+pub fn routing_data_keep_distances()
+    ensures { (i : Internet) (now : Tables) (past : List Tables)
+        → Passes i → IsSettled i → IsBounded i → AreMoments i (now ∷ past)
+        → Passes (with_tables i now) × IsSettled (with_tables i now)
+        × IsMovedTo i (with_tables i now) }
+{}

@@ -1,0 +1,12 @@
+//! Whether tables that agree with each other stay as they are: whether any routing data that the
+//! routers of an internet send each other can still change a route.
+#![tactic(auto)]
+
+mod laws;
+mod offers;
+mod settling;
+
+pub use laws::{
+    next_routers_offer, routing_data_keep_distances, what_moves_is_settled, what_moves_passes,
+};
+pub use settling::{Settling, settled};
