@@ -6,3 +6,4 @@ pub mod Stays
 pub mod Hearing
 pub mod Exchange
 pub mod Moments
+pub mod Asked

@@ -1,15 +1,18 @@
 //! Laws of internets that pass the audit and are settled. Each is the contract of a function that
 //! does nothing.
 
-ghost use Rattle.std.specs.Prelude.{◌≡◌, ◌∷◌, ℕ, List, Some, false, slice_get};
+ghost use Rattle.std.specs.Prelude.{◌≡◌, ◌∷◌, ℕ, List, [], Some, false, map, slice_get};
 ghost use Rattle.audit.specs.Rules.{Passes};
+ghost use Rattle.learning.specs.Queries.{queries_of};
 ghost use Rattle.settled.specs.Exchange.{AreMoments, Tables, with_tables};
 ghost use Rattle.settled.specs.Moved.{IsMovedTo};
 ghost use Rattle.settled.specs.Offers.{IsOfferedByNext};
 ghost use Rattle.settled.specs.Settling.{IsSettled};
 ghost use Rattle.table_image.specs.Bounds.{IsBounded};
 ghost use Rattle.table_image.specs.Internet.{Internet};
+ghost use Rattle.table_image.specs.RouteRows.{route_row};
 ghost use Rattle.table_image.specs.Rows.{is_direct};
+ghost use Rattle.table_image.specs.ZoneMaps.{zone_map};
 ghost use Rattle.table_image.specs.declared.router.Router.{Router};
 ghost use Rattle.table_image.specs.declared.row.Row.{Row};
 
@@ -42,4 +45,11 @@ pub fn routing_data_keep_distances()
         → Passes i → IsSettled i → IsBounded i → AreMoments i (now ∷ past)
         → Passes (with_tables i now) × IsSettled (with_tables i now)
         × IsMovedTo i (with_tables i now) }
+{}
+
+/// In an internet that passes, no router asks another one for a zone list.
+pub fn nobody_asks_for_zones()
+    ensures { (i : Internet) (r : ℕ) (router : Router) → Passes i
+        → slice_get i.routers r ≡ Some router
+        → queries_of (map route_row router.rows) (zone_map router.lists) ≡ [] }
 {}
