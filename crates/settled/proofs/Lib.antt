@@ -7,3 +7,4 @@ pub mod Hearing
 pub mod Exchange
 pub mod Moments
 pub mod Asked
+pub mod Examples

@@ -1,13 +1,17 @@
 //! Laws of internets that pass the audit and are settled. Each is the contract of a function that
 //! does nothing.
 
-ghost use Rattle.std.specs.Prelude.{◌≡◌, ◌∷◌, ℕ, List, [], Some, false, map, slice_get};
+ghost use Rattle.std.specs.Prelude.{◌≡◌, ◌∷◌, ℕ, List, [], Some, true, false, map, slice_get};
+ghost use Rattle.at_base.specs.declared.error.Place.{Place};
+ghost use Rattle.audit.specs.Firsts.{FirstPlace};
 ghost use Rattle.audit.specs.Rules.{Passes};
 ghost use Rattle.learning.specs.Queries.{queries_of};
+ghost use Rattle.rtmp.specs.declared.state.State.TheVariants.{Suspect, Bad};
+ghost use Rattle.settled.specs.Examples.{long_way, ring, short_way};
 ghost use Rattle.settled.specs.Exchange.{AreMoments, Tables, with_tables};
 ghost use Rattle.settled.specs.Moved.{IsMovedTo};
 ghost use Rattle.settled.specs.Offers.{IsOfferedByNext};
-ghost use Rattle.settled.specs.Settling.{IsSettled};
+ghost use Rattle.settled.specs.Settling.{changes, IsSettled};
 ghost use Rattle.table_image.specs.Bounds.{IsBounded};
 ghost use Rattle.table_image.specs.Internet.{Internet};
 ghost use Rattle.table_image.specs.RouteRows.{route_row};
@@ -52,4 +56,14 @@ pub fn nobody_asks_for_zones()
     ensures { (i : Internet) (r : ℕ) (router : Router) → Passes i
         → slice_get i.routers r ≡ Some router
         → queries_of (map route_row router.rows) (zone_map router.lists) ≡ [] }
+{}
+
+/// In a ring of four cables a router that reaches the cable across by two routers may change: the
+/// next one round the other way offers it at 0. By one router it stays, while that row is Suspect
+/// too, and where it is Bad it may change. With the long way and with the short one the ring passes.
+pub fn the_examples_are_judged()
+    ensures long { FirstPlace (changes (ring long_way)) (Some (Place.Row 1 3)) }
+    ensures short { IsSettled (ring (short_way Suspect)) }
+    ensures bad { changes (ring (short_way Bad)) (Place.Row 1 3) ≡ true }
+    ensures pass { Passes (ring long_way) × Passes (ring (short_way Suspect)) }
 {}

@@ -7,7 +7,7 @@ mod offers;
 mod settling;
 
 pub use laws::{
-    next_routers_offer, nobody_asks_for_zones, routing_data_keep_distances, what_moves_is_settled,
-    what_moves_passes,
+    next_routers_offer, nobody_asks_for_zones, routing_data_keep_distances,
+    the_examples_are_judged, what_moves_is_settled, what_moves_passes,
 };
 pub use settling::{Settling, settled};
