@@ -156,10 +156,13 @@ pub enum Error {
     BadScript(u32),
     #[error("not audited: {0:?}")]
     NotAudited(Fault),
+    /// The block of a capture, counted from 1, at which it is wrong.
+    #[error("bad capture at block {0}")]
+    BadCapture(u32),
 }
 
 impl Error {
-    /// The number by which the program names the error, 1 to 18, as in `refused: 12`.
+    /// The number by which the program names the error, 1 to 19, as in `refused: 12`.
     pub fn number(&self) -> u8
         ensures { result ≡ number_of self.now }
     {
@@ -182,6 +185,7 @@ impl Error {
             Error::WriteFault => 16,
             Error::BadScript(_) => 17,
             Error::NotAudited(_) => 18,
+            Error::BadCapture(_) => 19,
         }
     }
 }

@@ -21,6 +21,7 @@ pub fn refusal(alloc: Global, error: &Error, file: Option<&str>) -> Result<Strin
             members.number("entry", *entry)?;
         }
         Error::BadScript(line) => members.number("line", *line)?,
+        Error::BadCapture(block) => members.number("block", *block)?,
         _ => {}
     }
     members.named(file)?;

@@ -112,6 +112,7 @@ fn error_of(words: &mut Words<'_>) -> Result<Error, Stop> {
         "WriteFault" => Error::WriteFault,
         "BadScript" => Error::BadScript(words.number()?),
         "NotAudited" => Error::NotAudited(fault_of(words)?),
+        "BadCapture" => Error::BadCapture(words.number()?),
         _ => return Err(Stop::Unclear),
     })
 }

@@ -30,6 +30,7 @@ fn error(number: u8) -> Result<Error, Stop> {
             rule: 1,
             place: Place::Cable(1),
         }),
+        19 => Error::BadCapture(1),
         _ => return Err(Stop::Unclear),
     })
 }
