@@ -4,6 +4,7 @@
 ghost use Rattle.std.specs.Prelude.{◌≡◌, ◌∷◌, []};
 ghost use Rattle.rtmp.specs.Routes.{aged};
 ghost use Rattle.rtmp.specs.declared.state.State.TheVariants.{Good, Suspect, Bad, Last};
+ghost use Rattle.rtmp.specs.declared.tuple.Nonextended.TheVariants.{Skipped};
 ghost use Rattle.learning.specs.Examples.{five_rows, known, own, red, row, said_by, span};
 ghost use Rattle.learning.specs.Forgetting.{without_gone};
 ghost use Rattle.learning.specs.Heard.{routes_after};
@@ -12,15 +13,15 @@ ghost use Rattle.learning.specs.Queries.{queries_of};
 /// Routing data is accepted from a router whose network is one of the cable's, if its first tuple
 /// has the cable's range.
 pub fn the_examples_of_routes_heard()
-    ensures first { routes_after (span 10 19) 0 (said_by 10 10 19) (own ∷ [])
+    ensures first { routes_after Skipped (span 10 19) 0 (said_by 10 10 19) (own ∷ [])
         ≡ own ∷ row 20 29 Good ∷ [] }
-    ensures last { routes_after (span 10 19) 0 (said_by 19 10 19) [] ≡
+    ensures last { routes_after Skipped (span 10 19) 0 (said_by 19 10 19) [] ≡
         record (row 10 19 Good) { next = record { net = 19; node = 2 } }
         ∷ record (row 20 29 Good) { next = record { net = 19; node = 2 } } ∷ [] }
-    ensures below { routes_after (span 10 19) 0 (said_by 9 10 19) (own ∷ []) ≡ own ∷ [] }
-    ensures above { routes_after (span 10 19) 0 (said_by 20 10 19) (own ∷ []) ≡ own ∷ [] }
-    ensures start { routes_after (span 10 19) 0 (said_by 10 9 19) (own ∷ []) ≡ own ∷ [] }
-    ensures end { routes_after (span 10 19) 0 (said_by 10 10 18) (own ∷ []) ≡ own ∷ [] }
+    ensures below { routes_after Skipped (span 10 19) 0 (said_by 9 10 19) (own ∷ []) ≡ own ∷ [] }
+    ensures above { routes_after Skipped (span 10 19) 0 (said_by 20 10 19) (own ∷ []) ≡ own ∷ [] }
+    ensures start { routes_after Skipped (span 10 19) 0 (said_by 10 9 19) (own ∷ []) ≡ own ∷ [] }
+    ensures end { routes_after Skipped (span 10 19) 0 (said_by 10 10 18) (own ∷ []) ≡ own ∷ [] }
 {}
 
 /// A row that isn't direct gets the next state in each period. The zone list of a row that is

@@ -1,12 +1,12 @@
 //! Learning from packets of routing data.
 
 ghost use Rattle.std.specs.Prelude.{◌≡◌, false, OnErr, OnOk, IsOk, IsOkUnless};
-ghost use Rattle.rtmp.specs.Data.{tuples_of};
+ghost use Rattle.rtmp.specs.Data.{tuples_heard};
 ghost use Rattle.rtmp.specs.Routes.{IsHeardInPart};
 ghost use Rattle.learning.specs.Heard.{is_from_neighbour, routes_after};
 
 use at_base::{Error, Range};
-use rtmp::{DataPacket, RouteTable, hear_packet};
+use rtmp::{DataPacket, Nonextended, RouteTable, hear_packet};
 
 /// Whether a packet comes from a router on a cable of this range, and was sent there.
 fn is_neighbours(range: Range, packet: &DataPacket<'_>) -> bool
@@ -16,7 +16,8 @@ fn is_neighbours(range: Range, packet: &DataPacket<'_>) -> bool
 }
 
 /// Handles a packet of routing data that was received on a port whose cable has this range: each
-/// tuple in turn, except new ranges for which the table has no room.
+/// tuple in turn, except new ranges for which the table has no room; nonextended tuples are skipped,
+/// or are ranges of one network.
 ///
 /// A packet is ignored if its router's network isn't in the range, or if its first tuple has
 /// another range.
@@ -28,17 +29,18 @@ pub fn learn_routes<T: RouteTable>(
     range: Range,
     port: u8,
     packet: &DataPacket<'_>,
+    nonextended: Nonextended,
 ) -> Result<(), Error>
-    ensures ok { OnOk result
-        (T.rows routes.new ≡ routes_after range port packet.now (T.rows routes.old)) }
+    ensures ok { OnOk result (T.rows routes.new
+        ≡ routes_after nonextended range port packet.now (T.rows routes.old)) }
     // A packet that is ignored needs no memory.
     ensures ignored { is_from_neighbour range packet.now ≡ false → IsOk result }
     ensures in_part { OnErr result (IsHeardInPart packet.now.router port
-        (tuples_of packet.now.written) (T.rows routes.old) (T.rows routes.new)) }
+        (tuples_heard nonextended packet.now.written) (T.rows routes.old) (T.rows routes.new)) }
     ensures refused { IsOkUnless result Error.Memory }
 {
     if !is_neighbours(range, packet) {
         return Ok(());
     }
-    hear_packet(routes, packet, port)
+    hear_packet(routes, packet, port, nonextended)
 }

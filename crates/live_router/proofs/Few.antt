@@ -12,6 +12,7 @@ use Rattle.live_router.specs.Ticking.{data_by, data_from, data_way, packets_for,
 use Rattle.station.specs.Resolution.{probed}
 use Rattle.rtmp.specs.Data.{routing_data}
 use Rattle.rtmp.specs.Sending.{packet_numbered}
+use Rattle.rtmp.specs.declared.request.Horizon.TheVariants.{Split}
 use Rattle.rtmp.specs.declared.row.Row.{Row}
 use Rattle.station.specs.Made.{AreMade}
 use Rattle.station.specs.Making.{made}
@@ -23,14 +24,14 @@ option_len (Some x) = omega arith
 
 packets_few : (k : ℕ) (range : Span) (me : Addr) (rows : List Row) → length (packets_for k range me rows) ≤ 3
 packets_few k range me rows =
-    let first = option_to_list (packet_numbered k range me 0 rows) in
-    let second = option_to_list (packet_numbered k range me 1 rows) in
-    let third = option_to_list (packet_numbered k range me 2 rows) in
+    let first = option_to_list (packet_numbered Split k range me 0 rows) in
+    let second = option_to_list (packet_numbered Split k range me 1 rows) in
+    let third = option_to_list (packet_numbered Split k range me 2 rows) in
     omega (
       arith,
-      option_len (packet_numbered k range me 0 rows),
-      option_len (packet_numbered k range me 1 rows),
-      option_len (packet_numbered k range me 2 rows),
+      option_len (packet_numbered Split k range me 0 rows),
+      option_len (packet_numbered Split k range me 1 rows),
+      option_len (packet_numbered Split k range me 2 rows),
       length-append first (second ++ third),
       length-append second third,
     )

@@ -12,6 +12,7 @@ use Rattle.at_base.specs.Range.{Span, overlaps, same_range}
 use Rattle.at_base.specs.declared.address.Addr.{Addr}
 use Rattle.learning.specs.Heard.{is_from_neighbour, routes_after}
 use Rattle.live_router.specs.Ticking.{all_joined, joined, routes_aged, settles}
+use Rattle.rtmp.specs.declared.tuple.Nonextended.TheVariants.{Skipped}
 use Rattle.rtmp.specs.Data.{RoutingData, tuples_of}
 use Rattle.rtmp.specs.Routes.{after_hearing, aged, aged_row, beside, direct_row, directed, heard, heard_packet, heard_row}
 use Rattle.rtmp.specs.Routes.{heard_within, is_direct, is_new, is_over, older, row_at}
@@ -88,7 +89,7 @@ packet_seated n s port (t ∷ tuples) rows new h =
 
 -- after a packet of routing data that was received on one of the ports, the port of each row is below n
 pub after_seated : (n : ℕ) (range : Span) (port : ℕ) (p : RoutingData) (rows : List Row) → nat_lt port n ≡ true → Seated n rows
-    → Seated n (routes_after range port p rows)
+    → Seated n (routes_after Skipped range port p rows)
 after_seated n range port p rows new h = by (is_from_neighbour range p)
   where
     by : (b : Bool) → Seated n (cond b (heard_packet p.router port (tuples_of p.written) rows) rows)

@@ -3,6 +3,7 @@ use Rattle.std.specs.Prelude.{◌≡◌, ℕ, List, Option, Some, None, if◌the
 use Rattle.aarp.specs.Choosing.{Choice}
 use Rattle.ddp.specs.Datagram.{Datagram}
 use Rattle.learning.specs.Heard.{routes_after}
+use Rattle.rtmp.specs.declared.tuple.Nonextended.TheVariants.{Skipped}
 use Rattle.router.specs.Answers.{heard}
 use Rattle.station.specs.Ways.{is_to}
 use Rattle.router.specs.Ending.{ended}
@@ -25,7 +26,7 @@ pub record Living : Type 0 where
 -- The rows after a packet of routing data, if there is one, that ended on port p; only the packets of a neighbour on
 -- that port count.
 abbrev pub routes_taught : ℕ → List Row → Option Choice → Option RoutingData → List Row
-routes_taught p rows (Some c) (Some heard) = routes_after c.range p heard rows
+routes_taught p rows (Some c) (Some heard) = routes_after Skipped c.range p heard rows
 routes_taught p rows (Some c) None = rows
 routes_taught p rows None heard = rows
 

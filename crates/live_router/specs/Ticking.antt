@@ -16,6 +16,7 @@ use Rattle.router.specs.Holding.{Holding, own_at}
 use Rattle.rtmp.specs.Data.{RoutingData, routing_data}
 use Rattle.rtmp.specs.Routes.{aged, beside, directed}
 use Rattle.rtmp.specs.Sending.{packet_numbered}
+use Rattle.rtmp.specs.declared.request.Horizon.TheVariants.{Split}
 use Rattle.rtmp.specs.declared.row.Row.{Row}
 use Rattle.station.specs.Making.{made}
 use Rattle.station.specs.declared.output.Next.TheVariants as next
@@ -85,8 +86,8 @@ data_way k me = record { port = k; next = next.All; header = header_of me (recor
 
 -- The packets of routing data on port k, for a cable with this range: a table of at most 200 rows gives at most three.
 abbrev pub packets_for : ℕ → Span → Addr → List Row → List RoutingData
-packets_for k range me rows = option_to_list (packet_numbered k range me 0 rows)
-    ++ option_to_list (packet_numbered k range me 1 rows) ++ option_to_list (packet_numbered k range me 2 rows)
+packets_for k range me rows = option_to_list (packet_numbered Split k range me 0 rows)
+    ++ option_to_list (packet_numbered Split k range me 1 rows) ++ option_to_list (packet_numbered Split k range me 2 rows)
 
 -- the routing data on port k, if the port is settled
 abbrev pub data_by : ℕ → Span → Option Addr → List Row → List Output

@@ -8,6 +8,7 @@ ghost use Rattle.live_router.specs.Ticking as spec;
 ghost use Rattle.live_router.specs.Ticking.{data_by, data_from, packets_for};
 ghost use Rattle.rtmp.specs.Data.{routing_data};
 ghost use Rattle.rtmp.specs.Sending.{packet_numbered};
+ghost use Rattle.rtmp.specs.declared.request.Horizon.TheVariants.{Split};
 ghost use Rattle.station.specs.Made.{AreMade};
 ghost use Rattle.station.specs.Making as making_spec;
 ghost use Rattle.at_base.specs.Limits.{max_ports};
@@ -15,7 +16,7 @@ ghost use Rattle.at_base.specs.Limits.{max_ports};
 use aarp::Chooser;
 use at_base::{Addr, Error, Range};
 use ddp::{Header, kind, socket};
-use rtmp::{RouteTable, write_data};
+use rtmp::{Horizon, RouteTable, write_data};
 use station::making::put_one;
 use station::ways::EVERY_NODE;
 use station::{Next, Output, Way};
@@ -60,12 +61,12 @@ fn put_packet<T: RouteTable>(
 ) -> Result<(), Error>
     ensures put { OnOk result (made.new.items ≡ made.old.items
         ++ map (λ p. making_spec.made (spec.data_way port me) (bytes_of routing_data p))
-        (option_to_list (packet_numbered port range me number (T.rows routes.now)))) }
+        (option_to_list (packet_numbered Split port range me number (T.rows routes.now)))) }
     ensures good { (n : ℕ) → port < n → AreMade n made.old.items
         → AreMade n made.new.items }
     ensures refused { IsOkUnless result Error.Memory }
 {
-    let packet = write_data(*made.allocator(), routes, port, range, me, number)?;
+    let packet = write_data(*made.allocator(), routes, Horizon::Split, port, range, me, number)?;
     put_one(made, &Some(data_way(port, me)), &packet)
 }
 

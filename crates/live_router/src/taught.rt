@@ -4,6 +4,7 @@ ghost use Rattle.std.specs.Prelude.{◌≡◌, ◌<◌, length, nat_lt, option_m
 ghost use Rattle.std.specs.Prelude.{IfOk, IfSome, IsOkUnless, IsTrue};
 ghost use Rattle.std.specs.List.{list_all};
 ghost use Rattle.learning.specs.Heard.{routes_after};
+ghost use Rattle.rtmp.specs.declared.tuple.Nonextended.TheVariants.{Skipped};
 ghost use Rattle.live_router.specs.Living.{routes_taught, routes_then, taught};
 ghost use Rattle.rtmp.specs.Data.{routing_in};
 ghost use Rattle.live_router.specs.Living.{zones_taught, zones_then};
@@ -16,7 +17,7 @@ use at_base::{Error, Range};
 use ddp::{View, kind, socket};
 use learning::{learn_routes, learn_zones};
 use router::Router;
-use rtmp::{DataPacket, RouteTable};
+use rtmp::{DataPacket, Nonextended, RouteTable};
 use station::ways::is_to;
 use zip_zones::{Packet, ZoneTable};
 
@@ -29,11 +30,12 @@ fn routes_with<T: RouteTable>(
     packet: &DataPacket<'_>,
 ) -> Result<T, Error>
     ensures ok { IfOk result
-        (λ table. T.rows table ≡ routes_after range port packet.now (T.rows routes.now)) }
+        (λ table. T.rows table
+        ≡ routes_after Skipped range port packet.now (T.rows routes.now)) }
     ensures refused { IsOkUnless result Error.Memory }
 {
     let mut table = routes.copy()?;
-    learn_routes(&mut table, range, port, packet)?;
+    learn_routes(&mut table, range, port, packet, Nonextended::Skipped)?;
     Ok(table)
 }
 

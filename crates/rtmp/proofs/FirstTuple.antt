@@ -6,10 +6,11 @@ use Rattle.at_base.proofs.Fields.{not_wrong}
 use Rattle.rtmp.specs.declared.written.Written.{Written}
 use Rattle.rtmp.specs.declared.written.Extension.{Extension}
 use Rattle.rtmp.specs.declared.tuple.Tuple.{Tuple}
-use Rattle.rtmp.specs.Data.{RoutingData, at_least_one, routing_data, tuple_of, tuples_of, written_tuple}
+use Rattle.rtmp.specs.declared.tuple.Nonextended.TheVariants.{Skipped}
+use Rattle.rtmp.specs.Data.{RoutingData, any_of, at_least_one, heard_tuple, routing_data, tuples_of, written_tuple}
 
 -- a tuple that passes the first tuple's test is extended
-first_extended : (t : Written) → IsValue (written_tuple 0) t → (x : Tuple) × (tuple_of t ≡ Some x)
+first_extended : (t : Written) → IsValue (written_tuple 0) t → (x : Tuple) × (heard_tuple Skipped (any_of t) ≡ Some x)
 unfolding written_tuple
 first_extended t h =
     let third = not_wrong (nat_lt t.third 128) _ _ h.1.0.1 in
@@ -17,7 +18,7 @@ first_extended t h =
     let e = rw extended at h.1.1.0 in
     said t.extension _ e.1.1
   where
-    said : (o : Option Extension) (e : Extension) → Some e ≡ o → (x : Tuple) × (tuple_of (record t { extension = o }) ≡ Some x)
+    said : (o : Option Extension) (e : Extension) → Some e ≡ o → (x : Tuple) × (heard_tuple Skipped (any_of (record t { extension = o })) ≡ Some x)
     said None e p = absurd cc
     said (Some o) e p = (_, refl)
 

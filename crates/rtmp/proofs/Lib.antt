@@ -4,6 +4,7 @@ pub mod Shape
 pub mod FirstTuple
 pub mod Sent
 pub mod Spelled
+pub mod Asked
 mod Parts
 pub mod Scan
 pub mod Numbering

@@ -10,7 +10,10 @@ use Rattle.at_base.specs.Range.{Span, is_range}
 use Rattle.rtmp.specs.declared.row.Row.{Row}
 use Rattle.rtmp.specs.Bytes.{head_bytes, tuple_bytes, tuples_bytes}
 use Rattle.rtmp.specs.Routes.{IsRouteMap, is_row}
-use Rattle.rtmp.specs.Sending.{IsPacket, of_other_ports, own_tuple, packet_numbered, sent_tuple}
+use Rattle.at_base.specs.Spelling.{Spells}
+use Rattle.rtmp.specs.Data.{routing_data}
+use Rattle.rtmp.specs.Sending.{IsPacket, is_sent, own_tuple, packet_numbered, response_of, rows_sent, sent_tuple}
+use Rattle.rtmp.specs.declared.request.Horizon.{Horizon}
 use Rattle.rtmp.specs.States.{is_usable}
 use Rattle.at_base.proofs.Lists.{all_filter}
 use Rattle.rtmp.proofs.Spelled.{is_tuple, data_spelled}
@@ -43,60 +46,61 @@ sent_near r h =
 pub sent_at : (rows : List Row) (i : ℕ) (r : Row) → list_all is_row rows ≡ true → slice_get rows i ≡ Some r → (sent_tuple r).distance ≤ 31
 sent_at rows i r each h = sent_near r (row_good rows i r each h)
 
--- ---- rows of the other ports
+-- ---- rows that are sent
 
-pub others_skip : (port : ℕ) (r : Row) (rows : List Row) → r.port ≡ port → of_other_ports port (r ∷ rows) ≡ of_other_ports port rows
-others_skip port r rows t = rw (eq-eqb r.port port t) refl
+pub sent_skip : (h : Horizon) (port : ℕ) (r : Row) (rows : List Row) → is_sent h port r ≡ false
+    → rows_sent h port (r ∷ rows) ≡ rows_sent h port rows
+sent_skip h port r rows t = rw t refl
 
-pub others_take : (port : ℕ) (r : Row) (rows : List Row) → (r.port ≡ port → ⊥)
-    → of_other_ports port (r ∷ rows) ≡ r ∷ of_other_ports port rows
-others_take port r rows t = rw (ne_eqb r.port port t) refl
+pub sent_take : (h : Horizon) (port : ℕ) (r : Row) (rows : List Row) → is_sent h port r ≡ true
+    → rows_sent h port (r ∷ rows) ≡ r ∷ rows_sent h port rows
+sent_take h port r rows t = rw t refl
 
--- the bytes of up to count rows of the other ports, after the first left_out of them
-abbrev pub window : ℕ → ℕ → ℕ → List Row → List ℕ
-window port left_out count rows = tuples_bytes (map sent_tuple (take count (drop left_out (of_other_ports port rows))))
+-- the bytes of up to count rows that are sent, after the first left_out of them
+abbrev pub window : Horizon → ℕ → ℕ → ℕ → List Row → List ℕ
+window h port left_out count rows = tuples_bytes (map sent_tuple (take count (drop left_out (rows_sent h port rows))))
 
-pub window_skip : (port left_out count : ℕ) (r : Row) (rows : List Row) → r.port ≡ port
-    → window port left_out count (r ∷ rows) ≡ window port left_out count rows
-window_skip port left_out count r rows t = rw (others_skip port r rows t) refl
+pub window_skip : (h : Horizon) (port left_out count : ℕ) (r : Row) (rows : List Row) → is_sent h port r ≡ false
+    → window h port left_out count (r ∷ rows) ≡ window h port left_out count rows
+window_skip h port left_out count r rows t = rw (sent_skip h port r rows t) refl
 
-pub window_later : (port left_out count : ℕ) (r : Row) (rows : List Row) → (r.port ≡ port → ⊥) → 0 < left_out
-    → window port left_out count (r ∷ rows) ≡ window port (left_out - 1) count rows
-window_later port left_out count r rows t some =
+pub window_later : (h : Horizon) (port left_out count : ℕ) (r : Row) (rows : List Row) → is_sent h port r ≡ true → 0 < left_out
+    → window h port left_out count (r ∷ rows) ≡ window h port (left_out - 1) count rows
+window_later h port left_out count r rows t some =
     let n : left_out ≡ suc (left_out - 1) = omega arith in
-    let e : drop left_out (r ∷ of_other_ports port rows) ≡ drop (left_out - 1) (of_other_ports port rows) =
-    ap (λ (k : ℕ). drop k (r ∷ of_other_ports port rows)) n in
-    rw (others_take port r rows t, e) refl
+    let e : drop left_out (r ∷ rows_sent h port rows) ≡ drop (left_out - 1) (rows_sent h port rows) =
+    ap (λ (k : ℕ). drop k (r ∷ rows_sent h port rows)) n in
+    rw (sent_take h port r rows t, e) refl
 
-pub window_sent : (port count : ℕ) (r : Row) (rows : List Row) → (r.port ≡ port → ⊥) → 0 < count
-    → window port 0 count (r ∷ rows) ≡ tuple_bytes (sent_tuple r) ++ window port 0 (count - 1) rows
-window_sent port count r rows t some =
+pub window_sent : (h : Horizon) (port count : ℕ) (r : Row) (rows : List Row) → is_sent h port r ≡ true → 0 < count
+    → window h port 0 count (r ∷ rows) ≡ tuple_bytes (sent_tuple r) ++ window h port 0 (count - 1) rows
+window_sent h port count r rows t some =
     let n : count ≡ suc (count - 1) = omega arith in
-    let e : take count (r ∷ of_other_ports port rows) ≡ r ∷ take (count - 1) (of_other_ports port rows) =
-    ap (λ (k : ℕ). take k (r ∷ of_other_ports port rows)) n in
-    rw (others_take port r rows t, e) refl
+    let e : take count (r ∷ rows_sent h port rows) ≡ r ∷ take (count - 1) (rows_sent h port rows) =
+    ap (λ (k : ℕ). take k (r ∷ rows_sent h port rows)) n in
+    rw (sent_take h port r rows t, e) refl
 
 -- ---- the invariant of the loop: the bytes written and those still to be written are all bytes
 
 -- a row is written
-pub goes_on_written : (port left_out count : ℕ) (r : Row) (rest : List Row) (items written total : List ℕ)
-    → items ++ window port left_out count (r ∷ rest) ≡ total → (r.port ≡ port → ⊥) → left_out ≤ 0 → 0 < count
-    → written ≡ items ++ tuple_bytes (sent_tuple r) → written ++ window port left_out (count - 1) rest ≡ total
-goes_on_written port left_out count r rest items written total so_far other none some is =
+pub goes_on_written : (h : Horizon) (port left_out count : ℕ) (r : Row) (rest : List Row) (items written total : List ℕ)
+    → items ++ window h port left_out count (r ∷ rest) ≡ total → is_sent h port r ≡ true → left_out ≤ 0 → 0 < count
+    → written ≡ items ++ tuple_bytes (sent_tuple r) → written ++ window h port left_out (count - 1) rest ≡ total
+goes_on_written h port left_out count r rest items written total so_far other none some is =
     let z : left_out ≡ 0 = omega arith in
-    let step : window port left_out count (r ∷ rest) ≡ tuple_bytes (sent_tuple r) ++ window port left_out (count - 1) rest =
-    rw z (window_sent port count r rest other some) in
-    let bytes : written ++ window port left_out (count - 1) rest ≡ items ++ window port left_out count (r ∷ rest) =
+    let step : window h port left_out count (r ∷ rest) ≡ tuple_bytes (sent_tuple r) ++ window h port left_out (count - 1) rest =
+    rw z (window_sent h port count r rest other some) in
+    let bytes : written ++ window h port left_out (count - 1) rest ≡ items ++ window h port left_out count (r ∷ rest) =
     rw (is, step) (simp append_assoc) in
     bytes ∙ so_far
 
 -- enough rows were written
-pub goes_on_full : (port left_out count : ℕ) (rows rest : List Row) (items total : List ℕ)
-    → items ++ window port left_out count rows ≡ total → count ≤ 0 → items ++ window port left_out count rest ≡ total
-goes_on_full port left_out count rows rest items total so_far none =
+pub goes_on_full : (h : Horizon) (port left_out count : ℕ) (rows rest : List Row) (items total : List ℕ)
+    → items ++ window h port left_out count rows ≡ total → count ≤ 0 → items ++ window h port left_out count rest ≡ total
+goes_on_full h port left_out count rows rest items total so_far none =
     let z : count ≡ 0 = omega arith in
-    let a : window port left_out count rows ≡ [] = rw z refl in
-    let b : window port left_out count rest ≡ [] = rw z refl in
+    let a : window h port left_out count rows ≡ [] = rw z refl in
+    let b : window h port left_out count rest ≡ [] = rw z refl in
     ap (λ (l : List ℕ). items ++ l) (b ∙ sym a) ∙ so_far
 
 -- ---- every row that is sent can be written
@@ -119,23 +123,23 @@ all_sent (r ∷ rows) h =
     let near : nat_le (sent_tuple r).distance 31 ≡ true = le-leb _ _ (sent_near r p.0) in
     rw (valid, near, all_sent rows p.1) refl
 
-pub window_good : (port left_out : ℕ) (rows : List Row) → list_all is_row rows ≡ true
-    → list_all is_tuple (map sent_tuple (take 96 (drop left_out (of_other_ports port rows)))) ≡ true
-window_good port left_out rows h =
-    let others = of_other_ports port rows in
-    all_sent (take 96 (drop left_out others))
-    (all_take 96 (drop left_out others) (all_drop left_out others (all_filter is_row (λ r. not (r.port == port)) rows h)))
+pub window_good : (h : Horizon) (port left_out : ℕ) (rows : List Row) → list_all is_row rows ≡ true
+    → list_all is_tuple (map sent_tuple (take 96 (drop left_out (rows_sent h port rows)))) ≡ true
+window_good h port left_out rows good =
+    let sent = rows_sent h port rows in
+    all_sent (take 96 (drop left_out sent))
+    (all_take 96 (drop left_out sent) (all_drop left_out sent (all_filter is_row (λ r. is_sent h port r) rows good)))
 
 -- ---- the packet with a number
 
-pub numbered : (port : ℕ) (own : Span) (me : Addr) (n : ℕ) (rows : List Row) (bytes : List ℕ)
-    → (n == 0 || nat_lt (n * 96) (length (of_other_ports port rows))) ≡ true
-    → (h : IsRouteMap rows) → me.net < 65536 → me.node < 256 → is_range own.start own.end ≡ true
-    → bytes ≡ head_bytes me ++ tuple_bytes (own_tuple own) ++ window port (n * 96) 96 rows
-    → IsPacket (packet_numbered port own me n rows) (Some bytes)
-numbered port own me n rows bytes there h net node valid is =
-    rw (there, is) (data_spelled me own (map sent_tuple (take 96 (drop (n * 96) (of_other_ports port rows)))) net node valid
-    (window_good port (n * 96) rows h.each))
+pub numbered : (h : Horizon) (port : ℕ) (own : Span) (me : Addr) (n : ℕ) (rows : List Row) (bytes : List ℕ)
+    → (n == 0 || nat_lt (n * 96) (length (rows_sent h port rows))) ≡ true
+    → IsRouteMap rows → me.net < 65536 → me.node < 256 → is_range own.start own.end ≡ true
+    → bytes ≡ head_bytes me ++ tuple_bytes (own_tuple own) ++ window h port (n * 96) 96 rows
+    → IsPacket (packet_numbered h port own me n rows) (Some bytes)
+numbered h port own me n rows bytes there good net node valid is =
+    rw (there, is) (data_spelled me own (map sent_tuple (take 96 (drop (n * 96) (rows_sent h port rows)))) net node valid
+    (window_good h port (n * 96) rows good.each))
 
 -- the parts of a packet, written one after the other
 pub laid : (me : Addr) (own : Span) (rest a b d : List ℕ) → a ≡ [] → b ≡ a ++ head_bytes me ++ tuple_bytes (own_tuple own) → d ≡ b ++ rest
@@ -152,3 +156,9 @@ or_true false = refl
 
 pub there_later : (n len : ℕ) → n * 96 < len → (n == 0 || nat_lt (n * 96) len) ≡ true
 there_later n len h = rw (lt-ltb (n * 96) len h) (or_true (n == 0))
+
+-- ---- the response to a request for a router
+
+pub answered : (me : Addr) (own : Span) (bytes a b : List ℕ) → me.net < 65536 → me.node < 256 → is_range own.start own.end ≡ true
+    → a ≡ [] → b ≡ a ++ head_bytes me ++ tuple_bytes (own_tuple own) → bytes ≡ b → Spells routing_data bytes (response_of me own)
+answered me own bytes a b net node valid pa pb is = rw (is, pb, pa) (data_spelled me own [] net node valid refl)

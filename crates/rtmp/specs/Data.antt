@@ -12,6 +12,10 @@ use Rattle.at_base.specs.Packets.{any, only, packets}
 use Rattle.at_base.specs.Reading.{read, value_of}
 use Rattle.at_base.specs.Grammar.{Grammar, done, field, part, room, many, number, one, two}
 use Rattle.rtmp.specs.declared.tuple.Tuple.{Tuple}
+use Rattle.rtmp.specs.declared.tuple.AnyTuple.{AnyTuple}
+use Rattle.rtmp.specs.declared.tuple.AnyTuple.TheVariants.{Extended, Nonextended}
+use Rattle.rtmp.specs.declared.tuple.Nonextended.{Nonextended as Hearing}
+use Rattle.rtmp.specs.declared.tuple.Nonextended.TheVariants.{Skipped, AsRanges}
 use Rattle.rtmp.specs.declared.written.Written.{Written}
 use Rattle.rtmp.specs.declared.written.Extension.{Extension}
 
@@ -67,22 +71,34 @@ routing_data =
     many written_tuple (λ t. 1) at_least_one (λ p. p.written)
     (λ written. record { router = record { net = net; node = node }; written = written })))))
 
--- the range and distance of an extended tuple, and none of another tuple, which is skipped
-abbrev pub tuple_of : Written → Option Tuple
-tuple_of t = said t.extension
+-- a tuple with its kind: an extended one has a range, and another one has a network
+abbrev pub any_of : Written → AnyTuple
+any_of t = said t.extension
   where
-    said : Option Extension → Option Tuple
-    said None = None
-    said (Some e) = Some (record { range = e.range; distance = t.third % 32 })
+    said : Option Extension → AnyTuple
+    said None = Nonextended t.start (t.third % 32)
+    said (Some e) = Extended (record { range = e.range; distance = t.third % 32 })
 
--- the extended tuples of a packet, in order
-abbrev pub tuples_of : List Written → List Tuple
-tuples_of [] = []
-tuples_of (t ∷ ts) = with_next (tuple_of t) (tuples_of ts)
+-- what is heard of a tuple: of an extended one its range and distance, and of another one nothing, or, as a range, its
+-- network, if a range may have it
+abbrev pub heard_tuple : Hearing → AnyTuple → Option Tuple
+heard_tuple h (Extended t) = Some t
+heard_tuple Skipped (Nonextended net distance) = None
+heard_tuple AsRanges (Nonextended net distance) =
+    if is_range net net then Some (record { range = record { start = net; end = net }; distance = distance }) else None
+
+-- what is heard of a packet's tuples, in order
+abbrev pub tuples_heard : Hearing → List Written → List Tuple
+tuples_heard h [] = []
+tuples_heard h (t ∷ ts) = with_next (heard_tuple h (any_of t)) (tuples_heard h ts)
   where
     with_next : Option Tuple → List Tuple → List Tuple
     with_next None rest = rest
     with_next (Some x) rest = x ∷ rest
+
+-- the extended tuples of a packet, in order
+abbrev pub tuples_of : List Written → List Tuple
+tuples_of ts = tuples_heard Skipped ts
 
 -- the range of the sender's port, which is that of the first tuple
 abbrev pub own_range : RoutingData → Span

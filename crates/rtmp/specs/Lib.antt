@@ -5,4 +5,5 @@ pub mod Updates
 pub mod Removals
 pub mod Indexing
 pub mod Sending
+pub mod Requests
 pub mod Bytes

@@ -1,13 +1,13 @@
 //! A reader of packets of routing data, in place.
 
-ghost use Rattle.std.specs.Prelude.{◌≡◌, []};
+ghost use Rattle.std.specs.Prelude.{◌≡◌, [], map};
 ghost use Rattle.at_base.specs.Packets.{packets};
 ghost use Rattle.at_base.specs.Reading as spec;
 ghost use Rattle.at_base.specs.Reading.{Gives, Reads};
-ghost use Rattle.rtmp.specs.Data.{own_range, routing_data, routing_in, tuples_of};
+ghost use Rattle.rtmp.specs.Data.{any_of, own_range, routing_data, routing_in, tuples_heard, tuples_of};
 
-use crate::tuple::Tuple;
-use crate::written::{WrittenFormat, tuple_of};
+use crate::tuple::{AnyTuple, Nonextended, Tuple};
+use crate::written::{WrittenFormat, any_of};
 use at_base::in_place::{Items, all_items};
 use at_base::packet::{byte_at, byte_only, u16_at};
 use at_base::{Addr, Error, Field, Range};
@@ -89,6 +89,7 @@ impl<'a> DataPacket<'a> {
     {
         let mut tuples = Tuples {
             written: self.written.again(),
+            nonextended: Nonextended::Skipped,
         };
         match tuples.next() {
             Some(first) => first.range,
@@ -100,27 +101,46 @@ impl<'a> DataPacket<'a> {
     pub fn tuples(&self) -> Tuples<'a>
         ensures { result ≡ tuples_of self.now.written }
     {
+        self.heard(Nonextended::Skipped)
+    }
+
+    /// What is heard of the tuples, in order: the extended ones, and, as ranges of one network,
+    /// nonextended ones where these count.
+    pub fn heard(&self, nonextended: Nonextended) -> Tuples<'a>
+        ensures { result ≡ tuples_heard nonextended self.now.written }
+    {
         Tuples {
+            written: self.written.again(),
+            nonextended,
+        }
+    }
+
+    /// The tuples of either kind, in order.
+    pub fn all(&self) -> AllTuples<'a>
+        ensures { result ≡ map any_of self.now.written }
+    {
+        AllTuples {
             written: self.written.again(),
         }
     }
 }
 
-/// An iterator over the extended tuples that are left in a packet of routing data. Contracts see it
-/// as a list.
+/// An iterator over what is heard of the tuples that are left in a packet of routing data. Contracts
+/// see it as a list.
 #[derive(Debug, Drop)]
 pub struct Tuples<'a> {
     written: Items<'a, WrittenFormat>,
+    nonextended: Nonextended,
 }
 
 impl<'a> Model for Tuples<'a> {
     ghost use Rattle.std.specs.Prelude.{List};
     ghost use Rattle.rtmp.specs.declared.tuple.Tuple.{Tuple as TupleValue};
-    ghost use Rattle.rtmp.specs.Data.{tuples_of};
+    ghost use Rattle.rtmp.specs.Data.{tuples_heard};
 
     ghost Value = { List TupleValue };
 
-    ghost view = { λ t. tuples_of t.written };
+    ghost view = { λ t. tuples_heard t.nonextended t.written };
 }
 
 impl<'a> Iterator for Tuples<'a> {
@@ -136,10 +156,46 @@ impl<'a> Iterator for Tuples<'a> {
 
     fn next(&mut self) -> Option<Tuple> {
         while let Some(written) = self.written.next() {
-            if let Some(tuple) = tuple_of(&written) {
+            if let Some(tuple) = any_of(&written).heard(self.nonextended) {
                 return Some(tuple);
             }
         }
         None
+    }
+}
+
+/// An iterator over the tuples of either kind that are left in a packet of routing data. Contracts
+/// see it as a list.
+#[derive(Debug, Drop)]
+pub struct AllTuples<'a> {
+    written: Items<'a, WrittenFormat>,
+}
+
+impl<'a> Model for AllTuples<'a> {
+    ghost use Rattle.std.specs.Prelude.{List, map};
+    ghost use Rattle.rtmp.specs.declared.tuple.AnyTuple.{AnyTuple as TupleValue};
+    ghost use Rattle.rtmp.specs.Data.{any_of};
+
+    ghost Value = { List TupleValue };
+
+    ghost view = { λ t. map any_of t.written };
+}
+
+impl<'a> Iterator for AllTuples<'a> {
+    type Item = AnyTuple;
+
+    ghost use Rattle.std.specs.Prelude.{◌≡◌, ◌++◌, [], length, option_to_list, IfNone};
+    ghost use Rattle.std.specs.Iterator.{at_most};
+
+    ghost next_gives = { λ old result new. (old ≡ option_to_list result ++ new)
+        × IfNone result (old ≡ []) };
+
+    ghost remaining = { λ left. at_most (length left) };
+
+    fn next(&mut self) -> Option<AnyTuple> {
+        match self.written.next() {
+            Some(written) => Some(any_of(&written)),
+            None => None,
+        }
     }
 }

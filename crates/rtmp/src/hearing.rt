@@ -1,12 +1,12 @@
 //! The effect of a packet of routing data on a routing table.
 
 ghost use Rattle.std.specs.Prelude.{◌≡◌, OnErr, OnOk, IsOkUnless};
-ghost use Rattle.rtmp.specs.Data.{tuples_of};
+ghost use Rattle.rtmp.specs.Data.{tuples_heard};
 ghost use Rattle.rtmp.specs.Routes.{IsHeardInPart, IsToAdd, heard_packet, heard_within};
 
 use crate::data::DataPacket;
 use crate::table::RouteTable;
-use crate::tuple::Tuple;
+use crate::tuple::{Nonextended, Tuple};
 use at_base::{Addr, Error};
 
 /// Handles a tuple; a new range for which the table has no room is left out. Error: `Memory`, if a
@@ -29,24 +29,26 @@ fn hear_tuple<T: RouteTable>(
     }
 }
 
-/// Handles each tuple of a packet that was received on a port, in order. New ranges for which the
-/// table has no room are left out. Error: `Memory`, if a row is to be added; only the tuples before
-/// it were handled then.
+/// Handles each tuple of a packet that was received on a port, in order; nonextended ones are
+/// skipped, or are ranges of one network. New ranges for which the table has no room are left out.
+/// Error: `Memory`, if a row is to be added; only the tuples before it were handled then.
 ///
-/// Inside AppleTalk, the chapter on RTMP.
+/// Inside AppleTalk, the chapter on RTMP; what is made of nonextended tuples is this project's own.
 pub fn hear_packet<T: RouteTable>(
     table: &mut T,
     packet: &DataPacket<'_>,
     port: u8,
+    nonextended: Nonextended,
 ) -> Result<(), Error>
     ensures ok { OnOk result (T.rows table.new
-        ≡ heard_packet packet.now.router port (tuples_of packet.now.written) (T.rows table.old)) }
+        ≡ heard_packet packet.now.router port (tuples_heard nonextended packet.now.written)
+        (T.rows table.old)) }
     ensures in_part { OnErr result (IsHeardInPart packet.now.router port
-        (tuples_of packet.now.written) (T.rows table.old) (T.rows table.new)) }
+        (tuples_heard nonextended packet.now.written) (T.rows table.old) (T.rows table.new)) }
     ensures refused { IsOkUnless result Error.Memory }
 {
     let source = packet.router();
-    for tuple in packet.tuples() {
+    for tuple in packet.heard(nonextended) {
         hear_tuple(table, &tuple, source, port)?;
     }
     Ok(())

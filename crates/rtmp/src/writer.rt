@@ -7,8 +7,11 @@ ghost use Rattle.rtmp.specs.Bytes as bytes_spec;
 ghost use Rattle.rtmp.specs.Bytes.{head_bytes, tuples_bytes};
 ghost use Rattle.rtmp.specs.Routes.{IsRouteMap};
 ghost use Rattle.rtmp.specs.Sending as sending_spec;
-ghost use Rattle.rtmp.specs.Sending.{IsPacket, of_other_ports, own_tuple, packet_numbered};
+ghost use Rattle.at_base.specs.Spelling.{Spells};
+ghost use Rattle.rtmp.specs.Data.{routing_data};
+ghost use Rattle.rtmp.specs.Sending.{IsPacket, own_tuple, packet_numbered, response_of, rows_sent};
 
+use crate::request::Horizon;
 use crate::row::Row;
 use crate::table::RouteTable;
 use crate::tuple::Tuple;
@@ -83,15 +86,25 @@ fn put_front(bytes: &mut Vec<u8>, me: Addr, own: Range) -> Result<(), Error>
     )
 }
 
-/// The number of rows of the other ports.
-fn count_others<T: RouteTable>(table: &T, port: u8) -> usize
-    ensures value { result ≡ length (of_other_ports port (T.rows table.now)) }
+/// Whether the row is sent on a port.
+fn is_sent(horizon: Horizon, port: u8, row: &Row) -> bool
+    ensures { result ≡ sending_spec.is_sent horizon port row.now }
+{
+    match horizon {
+        Horizon::Split => row.port != port,
+        Horizon::Whole => row.port != port || !row.is_direct(),
+    }
+}
+
+/// The number of rows that are sent on a port.
+fn count_sent<T: RouteTable>(table: &T, horizon: Horizon, port: u8) -> usize
+    ensures value { result ≡ length (rows_sent horizon port (T.rows table.now)) }
     ensures map { IsRouteMap (T.rows table.now) }
 {
     let mut count = 0;
     for index in 0..table.len() {
         if let Some(row) = table.row(index) {
-            if row.port != port {
+            if is_sent(horizon, port, &row) {
                 count += 1;
             }
         }
@@ -99,22 +112,23 @@ fn count_others<T: RouteTable>(table: &T, port: u8) -> usize
     count
 }
 
-/// Appends up to 96 rows of the other ports, after the first `left_out` of them.
+/// Appends up to 96 of the rows that are sent on a port, after the first `left_out` of them.
 fn put_rows<T: RouteTable>(
     bytes: &mut Vec<u8>,
     table: &T,
+    horizon: Horizon,
     port: u8,
     left_out: usize,
 ) -> Result<(), Error>
     ensures put { OnOk result (bytes.new.items ≡ bytes.old.items ++ tuples_bytes
-        (map sending_spec.sent_tuple (take 96 (drop left_out (of_other_ports port (T.rows table.now)))))) }
+        (map sending_spec.sent_tuple (take 96 (drop left_out (rows_sent horizon port (T.rows table.now)))))) }
     ensures refused { IsOkUnless result Error.Memory }
 {
     let mut left_out = left_out;
     let mut room = MAX_ROWS_IN_PACKET;
     for index in 0..table.len() {
         if let Some(row) = table.row(index) {
-            if row.port == port {
+            if !is_sent(horizon, port, &row) {
                 continue;
             }
             if left_out > 0 {
@@ -129,32 +143,47 @@ fn put_rows<T: RouteTable>(
 }
 
 /// The packet `number` (from 0) of the routing data that router `me` sends on a port whose cable
-/// has the range `own`: that range at distance 0, and up to 96 rows of the other ports, by rising
-/// range. `None` after the last packet. Error: `Memory`.
+/// has the range `own`: that range at distance 0, and up to 96 of the rows that are sent there, by
+/// rising range. `None` after the last packet. Error: `Memory`.
 ///
 /// Inside AppleTalk, the chapter on RTMP.
 pub fn write_data<T: RouteTable>(
     alloc: Global,
     table: &T,
+    horizon: Horizon,
     port: u8,
     own: Range,
     me: Addr,
     number: u16,
 ) -> Result<Option<Bytes>, Error>
     ensures made { IfOk result
-        (λ packet. IsPacket (packet_numbered port own me number (T.rows table.now)) packet) }
+        (λ packet. IsPacket (packet_numbered horizon port own me number (T.rows table.now)) packet) }
     // No memory is needed after the last packet.
-    ensures past { packet_numbered port own me number (T.rows table.now) ≡ None → IsOk result }
+    ensures past { packet_numbered horizon port own me number (T.rows table.now) ≡ None
+        → IsOk result }
     ensures refused { IsOkUnless result Error.Memory }
 {
     let left_out = number as usize * MAX_ROWS_IN_PACKET;
-    let others = count_others(table, port);
-    if number > 0 && others <= left_out {
+    let sent = count_sent(table, horizon, port);
+    if number > 0 && sent <= left_out {
         return Ok(None);
     }
-    let count = (others - left_out).min(MAX_ROWS_IN_PACKET);
+    let count = (sent - left_out).min(MAX_ROWS_IN_PACKET);
     let mut bytes = Vec::with_capacity(alloc, HEAD_LEN + TUPLE_LEN * (1 + count))?;
     put_front(&mut bytes, me, own)?;
-    put_rows(&mut bytes, table, port, left_out)?;
+    put_rows(&mut bytes, table, horizon, port, left_out)?;
     Ok(Some(Bytes::from_vec(bytes)))
+}
+
+/// The response of router `me` to a request for the router of a cable with the range `own`: routing
+/// data without a row. Error: `Memory`.
+///
+/// Inside AppleTalk, the chapter on RTMP.
+pub fn write_response(alloc: Global, own: Range, me: Addr) -> Result<Bytes, Error>
+    ensures made { IfOk result (λ packet. Spells routing_data packet (response_of me own)) }
+    ensures refused { IsOkUnless result Error.Memory }
+{
+    let mut bytes = Vec::with_capacity(alloc, HEAD_LEN + TUPLE_LEN)?;
+    put_front(&mut bytes, me, own)?;
+    Ok(Bytes::from_vec(bytes))
 }

@@ -7,7 +7,7 @@ ghost use Rattle.at_base.specs.Reading.{Gives, field_at, read};
 ghost use Rattle.rtmp.specs.Data as spec;
 ghost use Rattle.rtmp.specs.Data.{wrong_extension, wrong_third};
 
-use crate::tuple::Tuple;
+use crate::tuple::{AnyTuple, Tuple};
 use at_base::in_place::ItemFormat;
 use at_base::packet::{byte_at, u16_at};
 use at_base::{Error, Field, Range};
@@ -119,13 +119,13 @@ impl ItemFormat for WrittenFormat {
     fn are_items(self) {}
 }
 
-/// The range and distance of an extended tuple; `None` for any other tuple.
-pub(crate) fn tuple_of(written: &Written) -> Option<Tuple>
-    ensures { result ≡ spec.tuple_of written.now }
+/// The tuple with its kind.
+pub(crate) fn any_of(written: &Written) -> AnyTuple
+    ensures { result ≡ spec.any_of written.now }
 {
-    let extension = written.extension?;
-    Some(Tuple {
-        range: extension.range,
-        distance: written.third % 32,
-    })
+    let distance = written.third % 32;
+    match written.extension {
+        Some(Extension { range, .. }) => AnyTuple::Extended(Tuple { range, distance }),
+        None => AnyTuple::Nonextended(written.start, distance),
+    }
 }

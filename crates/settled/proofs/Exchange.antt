@@ -22,7 +22,9 @@ use Rattle.rtmp.proofs.Heard.{there}
 use Rattle.rtmp.proofs.Maps.{aged_map, rows_apart}
 use Rattle.rtmp.specs.Data.{RoutingData, data_of, tuples_of, written_of}
 use Rattle.rtmp.specs.Routes.{IsRouteMap, after_hearing, aged, aged_row, heard, heard_packet, heard_within, is_direct, is_over, older}
-use Rattle.rtmp.specs.Sending.{of_other_ports, own_tuple, packet_numbered, sent_tuple}
+use Rattle.rtmp.specs.Sending.{own_tuple, packet_numbered, rows_sent, sent_tuple}
+use Rattle.rtmp.specs.declared.request.Horizon.TheVariants.{Split}
+use Rattle.rtmp.specs.declared.tuple.Nonextended.TheVariants.{Skipped}
 use Rattle.rtmp.specs.States.{is_usable}
 use Rattle.rtmp.specs.declared.row.Row.{Row as RouteRow}
 use Rattle.rtmp.specs.declared.state.State.{State}
@@ -279,25 +281,25 @@ module _ (i : Internet) (ok : Passes i) (settled : IsSettled i) (bounded : IsBou
             ap (λ m. m % 32) sum ∙ (add-mul-mod_self_left t.distance 32 4 ∙ mod-eq_of_lt (let l = low in omega (arith, l)))
 
     pub data_heard : (mine theirs : List RouteRow) → AreMovedRows i r w.router mine → AreMovedRows i s w.their theirs → (m : ℕ)
-        (packet : RoutingData) → packet_numbered q range w.their_port.address m theirs ≡ Some packet
-        → AreMovedRows i r w.router (routes_after range n packet mine)
+        (packet : RoutingData) → packet_numbered Split q range w.their_port.address m theirs ≡ Some packet
+        → AreMovedRows i r w.router (routes_after Skipped range n packet mine)
     data_heard mine theirs here there m packet e = by (is_from_neighbour range packet)
       where
         sent : List Tuple
-        sent = own_tuple range ∷ map sent_tuple (take 96 (drop (m * 96) (of_other_ports q theirs)))
+        sent = own_tuple range ∷ map sent_tuple (take 96 (drop (m * 96) (rows_sent Split q theirs)))
 
         each_told : Each (IsTupleOf s w.their) sent
         each_told = (
           own_told,
           each_map (λ (c : RouteRow). IsTupleOf s w.their (sent_tuple c)) (IsTupleOf s w.their) sent_tuple (λ c t. t)
-              (take 96 (drop (m * 96) (of_other_ports q theirs)))
-              (each_take _ 96 (drop (m * 96) (of_other_ports q theirs))
-              (each_drop _ (m * 96) (of_other_ports q theirs)
+              (take 96 (drop (m * 96) (rows_sent Split q theirs)))
+              (each_take _ 96 (drop (m * 96) (rows_sent Split q theirs))
+              (each_drop _ (m * 96) (rows_sent Split q theirs)
               (each_filter _ (λ (c : RouteRow). not (c.port == q)) theirs (each_of _ theirs (sent_told theirs there))))),
         )
 
         data_is : packet ≡ data_of w.their_port.address sent
-        data_is = by_room (m == 0 || nat_lt (m * 96) (length (of_other_ports q theirs))) e
+        data_is = by_room (m == 0 || nat_lt (m * 96) (length (rows_sent Split q theirs))) e
           where
             by_room : (b : Bool) → (if b then Some (data_of w.their_port.address sent) else None) ≡ Some packet
                 → packet ≡ data_of w.their_port.address sent

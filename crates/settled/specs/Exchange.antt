@@ -5,6 +5,8 @@ use Rattle.learning.specs.Heard.{routes_after}
 use Rattle.rtmp.specs.Data.{RoutingData}
 use Rattle.rtmp.specs.Routes.{IsRouteMap, aged, is_direct}
 use Rattle.rtmp.specs.Sending.{packet_numbered}
+use Rattle.rtmp.specs.declared.request.Horizon.TheVariants.{Split}
+use Rattle.rtmp.specs.declared.tuple.Nonextended.TheVariants.{Skipped}
 use Rattle.rtmp.specs.declared.row.Row.{Row as RouteRow}
 use Rattle.rtmp.specs.declared.state.State.TheVariants.{Good}
 use Rattle.settled.specs.Moved.{IsMoved}
@@ -74,8 +76,8 @@ pub record IsHearing (i : Internet) (moments : List Tables) (r : ℕ) (before af
   pub tables : Tables
   pub among : IsAmong tables moments
   pub packet : RoutingData
-  pub sent : packet_numbered q range neighbours.their_port.address m (tables s) ≡ Some packet
-  pub heard : after ≡ routes_after range n packet before
+  pub sent : packet_numbered Split q range neighbours.their_port.address m (tables s) ≡ Some packet
+  pub heard : after ≡ routes_after Skipped range n packet before
 
 -- A router ages its rows while all that aren't direct are Good.
 pub record IsAgeing (before after : List RouteRow) : Type 0 where

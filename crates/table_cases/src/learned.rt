@@ -1,5 +1,6 @@
 //! A router's learning and aging of its tables.
 
+use crate::routes::nonextended;
 use case_words::{Answer, Stop, Words};
 use learning::{Query, forget, learn_routes, learn_zones, queries};
 use rtmp::{DataPacket, RouteTable};
@@ -11,8 +12,10 @@ fn hear_routes<T: RouteTable>(alloc: Global, routes: &mut T, mut words: Words<'_
     let port = words.named("port")?;
     words.expect("on")?;
     let range = words.range()?;
+    let nonextended = nonextended(&mut words);
     let bytes = words.bytes(alloc)?;
-    learn_routes(routes, range, port, &DataPacket::read(bytes.as_slice())?)?;
+    let packet = DataPacket::read(bytes.as_slice())?;
+    learn_routes(routes, range, port, &packet, nonextended)?;
     Ok(())
 }
 

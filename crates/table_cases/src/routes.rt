@@ -8,7 +8,9 @@ use crate::rows::{put_changes, put_found, put_many, put_rows, row};
 use crate::spelling::put_groups;
 use at_base::{Addr, Bytes, Error, Range};
 use case_words::{Answer, Stop, Words, put_hex};
-use rtmp::{Change, DataPacket, RouteTable, Row, hear_packet, write_data};
+use rtmp::{
+    Change, DataPacket, Horizon, Nonextended, RouteTable, Row, hear_packet, write_data, write_response,
+};
 use std::alloc::{AllocError, Global};
 
 /// A routing table, another that may be a copy of it, and the rows for the next load.
@@ -58,27 +60,51 @@ fn hear<T: RouteTable>(table: &mut T, mut words: Words<'_>, text: &mut String) -
     Ok(())
 }
 
+/// What is made of nonextended tuples: they are ranges after the word `as-ranges`.
+pub(crate) fn nonextended(words: &mut Words<'_>) -> Nonextended {
+    if words.passes("as-ranges") {
+        Nonextended::AsRanges
+    } else {
+        Nonextended::Skipped
+    }
+}
+
 /// Handles a packet of routing data.
 fn hear_bytes<T: RouteTable>(alloc: Global, table: &mut T, mut words: Words<'_>) -> Answer {
     let port = words.named("port")?;
+    let nonextended = nonextended(&mut words);
     let bytes = words.bytes(alloc)?;
-    hear_packet(table, &DataPacket::read(bytes.as_slice())?, port)?;
+    hear_packet(table, &DataPacket::read(bytes.as_slice())?, port, nonextended)?;
     Ok(())
 }
 
-/// The packet of routing data with a number, as a router sends it on a port.
+/// The packet of routing data with a number, as a router sends it on a port: of all rows after the
+/// word `whole`.
 fn sent<T: RouteTable>(
     alloc: Global,
     table: &T,
     mut words: Words<'_>,
 ) -> Result<Option<Bytes>, Stop> {
+    let horizon = if words.passes("whole") {
+        Horizon::Whole
+    } else {
+        Horizon::Split
+    };
     let number = words.number()?;
     let port = words.named("port")?;
     words.expect("of")?;
     let own: Range = words.range()?;
     words.expect("as")?;
     let me = words.addr()?;
-    Ok(write_data(alloc, table, port, own, me, number)?)
+    Ok(write_data(alloc, table, horizon, port, own, me, number)?)
+}
+
+/// The response to a request for the router of a cable.
+fn response(alloc: Global, mut words: Words<'_>) -> Result<Option<Bytes>, Stop> {
+    words.expect("of")?;
+    let own: Range = words.range()?;
+    words.expect("as")?;
+    Ok(Some(write_response(alloc, own, words.addr()?)?))
 }
 
 /// Appends a packet: its first four bytes, and then its tuples.
@@ -155,6 +181,7 @@ impl<T: RouteTable> Routes<T> {
             "at" => put_found(text, self.table.row(after.number()?))?,
             "for" => put_found(text, self.table.row_for(after.number()?))?,
             "send" => put_sent(text, &sent(alloc, &self.table, after)?)?,
+            "respond" => put_sent(text, &response(alloc, after)?)?,
             "compare" => compare(alloc, self.given.as_slice(), after, text)?,
             _ => self.change(alloc, words, text)?,
         }

@@ -2,7 +2,7 @@
 
 use at_base::{Error, Range};
 use learning::{Query, forget, learn_routes, queries};
-use rtmp::{DataPacket, RouteTable, Routes};
+use rtmp::{DataPacket, Nonextended, RouteTable, Routes};
 use std::alloc::Global;
 use std::test::*;
 use zip_zones::ZoneTable;
@@ -14,7 +14,7 @@ fn asked(alloc: Global, packet: &DataPacket<'_>) -> Result<Vec<Query>, Error> {
     let mut routes = Routes::empty(alloc)?;
     routes.direct(cable, 0)?;
     let mut zones = ZoneTable::new(alloc)?;
-    learn_routes(&mut routes, cable, 0, packet)?;
+    learn_routes(&mut routes, cable, 0, packet, Nonextended::Skipped)?;
     forget(&mut routes, &mut zones);
     queries(alloc, &routes, &zones)
 }

@@ -1,5 +1,5 @@
 use Rattle.std.proofs.Common.{◌≡◌, ◌∙◌, ap, subst}
-use Rattle.rtmp.specs.Data.{tuples_of}
+use Rattle.rtmp.specs.Data.{tuples_heard}
 use Rattle.rtmp.specs.Routes.{heard_packet, heard_within}
 use Rattle.rtmp.proofs.Parts.{InPart, next_part}
 use Rattle.rtmp.proofs.hearing.hear_packet.Goals as goal
@@ -12,7 +12,7 @@ loop-tuple-preserved g c =
     let port = c.args.port in
     let t = c.in-Some.tuple in
     let rest = c.next.new.self in
-    let tuples = tuples_of c.args.packet.now.written in
+    let tuples = tuples_heard c.args.nonextended c.args.packet.now.written in
     let took = c.in-Some.ensures.steps.0 in
     let heard = (c.in_ok-hear_tuple.ensures {u = tt}).ok in
     let by_router : rows c.hear_tuple.new.table ≡ heard_within t.range t.distance router port (rows c.loop-tuple.table) =
