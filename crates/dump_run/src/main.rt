@@ -62,7 +62,7 @@ fn step<T: RouteTable>(run: &mut Frozen<T>, step: &Step) -> Result<(), Error> {
     }
 }
 
-/// Carries out steps, and prints what each adds.
+/// Carries out steps, and prints what each adds, and what is pending at the end.
 fn print_steps<T: RouteTable, W: Write>(
     run: &mut Frozen<T>,
     steps: &[Step],
@@ -79,7 +79,21 @@ fn print_steps<T: RouteTable, W: Write>(
         }
     }
     let pending = u32::try_from(run.pending_count()).unwrap_or(u32::MAX);
-    print_number(output, b"pending ", pending)
+    print_number(output, b"pending ", pending)?;
+    output.flush()
+}
+
+/// Carries out steps over a run, and prints them. A run is dear to let go of: it has one way out.
+fn print_all<T: RouteTable, W: Write>(
+    run: Frozen<T>,
+    steps: &[Step],
+    output: &mut Output<W>,
+) -> Result<bool, Error> {
+    let mut run = run;
+    match print_steps(&mut run, steps, output) {
+        Ok(()) => Ok(true),
+        Err(error) => Err(error),
+    }
 }
 
 /// Carries out a script over an image, and prints the transcript, or the line of a no. The result is
@@ -94,12 +108,7 @@ fn print_run<W: Write>(
     let image = image_in(alloc, image)?;
     let steps = steps_in(alloc, script)?;
     match Frozen::<Routes>::start(alloc, image, limit) {
-        Ok(run) => {
-            let mut run = run;
-            print_steps(&mut run, steps.as_slice(), output)?;
-            output.flush()?;
-            Ok(true)
-        }
+        Ok(run) => print_all(run, steps.as_slice(), output),
         Err(Error::NotAudited(fault)) => {
             let line = Verdict::No(fault).line(alloc)?;
             output.write_line(line.as_bytes())?;

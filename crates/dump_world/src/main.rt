@@ -41,16 +41,30 @@ fn print<T: RouteTable, W: Write>(world: &World<T>, output: &mut Output<W>) -> R
     output.flush()
 }
 
-/// Plays a file, and prints its transcript, also if a tick has an error.
+/// Plays a world to its last tick, and prints its transcript, also if a tick has an error. A world is
+/// dear to let go of: it has one way out.
+fn print_world<T: RouteTable, W: Write>(
+    world: World<T>,
+    output: &mut Output<W>,
+) -> Result<(), Error> {
+    let mut world = world;
+    let answer = play(&mut world);
+    match print(&world, output) {
+        Ok(()) => answer,
+        Err(error) => Err(error),
+    }
+}
+
+/// Plays a file, and prints its transcript.
 fn print_play<W: Write>(alloc: Global, text: &[u8], output: &mut Output<W>) -> Result<(), Error> {
     let plan = match read(alloc, text) {
         Ok(plan) => plan,
         Err(refused) => return Err(refused.error),
     };
-    let mut world = World::<Routes>::new(alloc, plan)?;
-    let answer = play(&mut world);
-    print(&world, output)?;
-    answer
+    match World::<Routes>::new(alloc, plan) {
+        Ok(world) => print_world(world, output),
+        Err(error) => Err(error),
+    }
 }
 
 /// Plays the internet file that the reader has, and prints its transcript.
