@@ -17,9 +17,9 @@ address_stays w c = either c.is_settled refl
 
     either : (s : Bool) → c.is_settled ≡ s → settled (heard w c) ≡ settled c
     either true e = rw e refl
-    either false e = by (is_conflict c.tentative c.hw w) refl
+    either false e = by (is_conflict c.minds.one_goes_on c.tentative c.hw w) refl
       where
-        by : (b : Bool) → is_conflict c.tentative c.hw w ≡ b → settled (heard w c) ≡ settled c
+        by : (b : Bool) → is_conflict c.minds.one_goes_on c.tentative c.hw w ≡ b → settled (heard w c) ≡ settled c
         by true f =
             let is : heard w c ≡ moved c = rw (e, f) refl in
             ap settled is ∙ none (moved c) (moved_is c c.left refl ∙ e) ∙ sym (none c e)

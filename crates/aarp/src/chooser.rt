@@ -3,7 +3,7 @@
 ghost use Rattle.std.specs.Prelude.{◌≡◌, IsTrue, IfOk, IfSome, IsOkUnless};
 ghost use Rattle.std.specs.List.{list_all};
 ghost use Rattle.aarp.specs.Choosing as spec;
-ghost use Rattle.aarp.specs.Choosing.{begun, is_on, probe_for, ticked};
+ghost use Rattle.aarp.specs.Choosing.{begun, begun_minding, is_on, minding, probe_for, ticked, told_range};
 
 use crate::packet::{Function, Packet};
 use at_base::{Addr, Error, Hw, Range};
@@ -19,6 +19,21 @@ const LAST_NODE: u8 = 253;
 /// The target hardware address in a probe: zeros.
 const NOBODY: Hw = Hw([0; 6]);
 
+/// The number of ticks for which a careful choice listens before its first probe, unless routing
+/// data ends that.
+const MOST_LISTENED: u8 = 60;
+
+/// What a choice minds of the other stations of a real cable. In a play it minds nothing of this.
+#[derive(Clone, Copy, Debug, PartialEq, Eq)]
+pub struct Care {
+    /// Whether it listens before its first probe, for 60 ticks, or until routing data tells it the
+    /// cable's range.
+    pub listens: bool,
+    /// Whether of two stations that probe for one address at once only the one with the greater
+    /// hardware address goes on to its next.
+    pub one_goes_on: bool,
+}
+
 /// The choice of a port's address, by sending probes.
 ///
 /// Inside AppleTalk, the chapter on AARP; the order of the addresses is this project's own.
@@ -32,12 +47,17 @@ pub struct Chooser {
     tried: usize,
     probes: u8,
     is_settled: bool,
+    // The ticks for which it listens yet, whether it heard meanwhile that the cable has another range,
+    // and whether of two that probe at once only one goes on.
+    listens: u8,
+    is_elsewhere: bool,
+    one_goes_on: bool,
 }
 
 impl Model for Chooser {
     ghost use Rattle.std.specs.Prelude.{◌≤◌, IsTrue, drop, length};
     ghost use Rattle.std.specs.List.{list_all};
-    ghost use Rattle.aarp.specs.Choosing.{Choice, is_on};
+    ghost use Rattle.aarp.specs.Choosing.{Choice, Minding, is_on};
 
     ghost Value = { Choice };
 
@@ -48,6 +68,7 @@ impl Model for Chooser {
       left = drop c.tried c.tries.items;
       probes = c.probes;
       is_settled = c.is_settled;
+      minds = record { listens = c.listens; is_elsewhere = c.is_elsewhere; one_goes_on = c.one_goes_on };
     } };
 
     ghost invariant = { λ c. IsTrue (is_on c.range c.tentative)
@@ -83,14 +104,43 @@ fn upwards(range: Range, addr: Addr) -> Addr
     Addr { net, node: 1 }
 }
 
-/// Whether the packet shows that another station has the address or is probing for it.
-fn is_conflict(tentative: Addr, hw: Hw, packet: &Packet) -> bool
-    ensures { result ≡ spec.is_conflict tentative hw packet.now }
+/// Whether the bytes come before the others: at the first place where they differ, the byte is less.
+fn come_before(bytes: &[u8], others: &[u8]) -> bool
+    ensures { result ≡ spec.come_before bytes.now others.now }
+{
+    let [byte, bytes @ ..] = bytes else {
+        return false;
+    };
+    match others {
+        [other, others @ ..] => byte < other || (byte == other && come_before(bytes, others)),
+        [] => false,
+    }
+}
+
+/// Whether a station with the hardware address `mine` goes on to its next address where one with the
+/// hardware address `theirs` probes for the same: if they differ, or, where only one goes on, if
+/// `mine` is the greater.
+fn gives_way(one_goes_on: bool, theirs: Hw, mine: Hw) -> bool
+    ensures { result ≡ spec.gives_way one_goes_on theirs mine }
+{
+    if one_goes_on {
+        come_before(theirs.as_slice(), mine.as_slice())
+    } else {
+        theirs != mine
+    }
+}
+
+/// Whether the packet shows that another station has the address, or probes for it too and isn't the
+/// one that goes on.
+fn is_conflict(one_goes_on: bool, tentative: Addr, hw: Hw, packet: &Packet) -> bool
+    ensures { result ≡ spec.is_conflict one_goes_on tentative hw packet.now }
 {
     match packet.function {
         Function::Request => false,
         Function::Response => packet.source == tentative,
-        Function::Probe => packet.target == tentative && packet.source_hw != hw,
+        Function::Probe => {
+            packet.target == tentative && gives_way(one_goes_on, packet.source_hw, hw)
+        }
     }
 }
 
@@ -114,6 +164,29 @@ impl Chooser {
         ensures ok { IfOk result (λ c. c ≡ begun range tries.now hw) }
         ensures refused { IsOkUnless result Error.Memory }
     {
+        let nothing = Care {
+            listens: false,
+            one_goes_on: false,
+        };
+        Chooser::careful(alloc, range, tries, hw, nothing)
+    }
+
+    /// A choice that begins as `new`'s, and minds the other stations with this care. The caller
+    /// ensures that a station of the range may have each of the addresses (`are_on`). Error:
+    /// `Memory`.
+    ///
+    /// This project's own.
+    pub fn careful(
+        alloc: Global,
+        range: Range,
+        tries: &[Addr],
+        hw: Hw,
+        care: Care,
+    ) -> Result<Chooser, Error>
+        requires tries { IsTrue (list_all (is_on range) tries.now) }
+        ensures ok { IfOk result (λ c. c ≡ begun_minding (minding care) range tries.now hw) }
+        ensures refused { IsOkUnless result Error.Memory }
+    {
         let (tentative, left) = match tries {
             [first, left @ ..] => (*first, left),
             [] => (
@@ -132,6 +205,9 @@ impl Chooser {
             tried: 0,
             probes: 0,
             is_settled: false,
+            listens: if care.listens { MOST_LISTENED } else { 0 },
+            is_elsewhere: false,
+            one_goes_on: care.one_goes_on,
         })
     }
 
@@ -150,6 +226,9 @@ impl Chooser {
             tried: 0,
             probes: MAX_PROBES,
             is_settled: true,
+            listens: 0,
+            is_elsewhere: false,
+            one_goes_on: false,
         }
     }
 
@@ -181,6 +260,9 @@ impl Chooser {
             tried: self.tried,
             probes: self.probes,
             is_settled: self.is_settled,
+            listens: self.listens,
+            is_elsewhere: self.is_elsewhere,
+            one_goes_on: self.one_goes_on,
         })
     }
 
@@ -198,11 +280,19 @@ impl Chooser {
     }
 
     /// Advances the choice by one tick: returns a probe to broadcast in each of ten ticks; in the
-    /// eleventh the port is settled. Allocates nothing.
+    /// eleventh the port is settled. While the choice listens, and where the cable has another range,
+    /// there is none. Allocates nothing.
     pub fn tick(&mut self) -> Option<Packet>
         ensures { (self.new, result) ≡ ticked self.old }
     {
         if self.is_settled {
+            return None;
+        }
+        if self.listens > 0 {
+            self.listens -= 1;
+            return None;
+        }
+        if self.is_elsewhere {
             return None;
         }
         if self.probes == MAX_PROBES {
@@ -213,12 +303,13 @@ impl Chooser {
         Some(self.probe())
     }
 
-    /// Handles a packet heard on the port: if another station has the tentative address or probes
-    /// for it too, the next address is tried. A settled port keeps its address. Allocates nothing.
+    /// Handles a packet heard on the port: if another station has the tentative address, or probes
+    /// for it too and isn't the one that goes on, the next address is tried. A settled port keeps its
+    /// address. Allocates nothing.
     pub fn heard(&mut self, packet: &Packet)
         ensures { self.new ≡ spec.heard packet.now self.old }
     {
-        if self.is_settled || !is_conflict(self.tentative, self.hw, packet) {
+        if self.is_settled || !is_conflict(self.one_goes_on, self.tentative, self.hw, packet) {
             return;
         }
         match self.tries.get(self.tried) {
@@ -229,6 +320,29 @@ impl Chooser {
             None => self.tentative = upwards(self.range, self.tentative),
         }
         self.probes = 0;
+    }
+
+    /// Handles the range that routing data of the port's cable tells. What is heard first, while
+    /// the choice listens, decides for good: with the port's own range it probes from the next tick
+    /// on, and with another one it never probes. Later on nothing changes. Allocates nothing.
+    ///
+    /// This project's own.
+    pub fn hear_range(&mut self, range: Range)
+        ensures { self.new ≡ told_range range self.old }
+    {
+        if self.listens == 0 {
+            return;
+        }
+        self.listens = 0;
+        self.is_elsewhere = range != self.range;
+    }
+
+    /// Whether the choice heard, while it listened, that the port's cable has another range: then
+    /// it never probes. Allocates nothing.
+    pub fn is_elsewhere(&self) -> bool
+        ensures { result ≡ self.now.minds.is_elsewhere }
+    {
+        self.is_elsewhere
     }
 
     /// The port's address, if it is settled. Allocates nothing.

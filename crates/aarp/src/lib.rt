@@ -11,7 +11,7 @@ mod packet;
 mod waiting;
 
 pub use addresses::Addresses;
-pub use chooser::{Chooser, are_on};
+pub use chooser::{Care, Chooser, are_on};
 pub use held::Held;
 pub use laws::{by_address_is_the_same, written_is_read};
 pub use mapper::Mapper;

@@ -14,6 +14,7 @@ mod run;
 mod run_play;
 mod run_tables;
 mod run_trace;
+mod settling;
 mod streams;
 mod telling;
 mod watching;

@@ -13,6 +13,7 @@ use crate::printing::Printing;
 use crate::run_play::{PlayJob, play_source};
 use crate::run_tables::{MakeJob, Printed, draw_source, make_source, print_source};
 use crate::run_trace::{Sources, trace_sources};
+use crate::settling::settle;
 use crate::telling::{Lines, Telling, Terminals};
 use clap::error::ErrorKind as ParseError;
 use command_line::{Job, Outcome, Request, Source, exit_of, read_arguments};
@@ -45,8 +46,10 @@ fn audit_reader<'a, R: Print + AllocGlobal, S: Read + Drop>(
 ) -> Performed<'a> {
     let mut output = Output::new(rt.alloc(), Printing::named(rt, telling, it.name));
     let audited = audit_file(rt.alloc(), &mut reader, &mut output);
+    let image = audited.as_ref().ok().map(|judged| &judged.image);
+    let answer = settle(rt, answer_of(&audited), image, it.name, telling);
     Performed {
-        outcome: Outcome::Answered(answer_of(&audited)),
+        outcome: Outcome::Answered(answer),
         evidence: Evidence::of_worked(it.source, audited),
     }
 }

@@ -5,6 +5,7 @@ use crate::keeping::{Keeping, bytes_of};
 use crate::outputs::{Outputs, Wanted};
 use crate::performed::Performed;
 use crate::printing::Printing;
+use crate::settling::settle;
 use crate::telling::Telling;
 use crate::watching::Watching;
 use at_base::Fault;
@@ -139,7 +140,9 @@ fn play_reader<'a, R: Files + Print + Eprint + AllocGlobal, S: Read + Drop>(
     let played = play_outputs(rt, job, &mut reader, &mut outputs, &mut watching, telling);
     watching.end();
     let text = reader.into_text();
-    let ended = outputs.end(rt, answer_of(&played));
+    let image = played.as_ref().ok().map(|it| &it.image);
+    let answer = settle(rt, answer_of(&played), image, None, telling);
+    let ended = outputs.end(rt, answer);
     Performed {
         outcome: Outcome::Answered(ended.answer),
         evidence: Evidence {

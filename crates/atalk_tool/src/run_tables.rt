@@ -6,6 +6,7 @@ use crate::explain::{Evidence, prompt};
 use crate::outputs::{Outputs, Wanted};
 use crate::performed::Performed;
 use crate::printing::Printing;
+use crate::settling::settle;
 use crate::telling::Telling;
 use at_base::Error;
 use clap::error::ErrorKind as ParseError;
@@ -45,7 +46,9 @@ fn make_reader<'a, R: Files + Print + AllocGlobal, S: Read + Drop>(
 ) -> Performed<'a> {
     let mut output = Output::new(rt.alloc(), Printing::new(rt, telling));
     let made = make_bytes(rt.alloc(), &mut reader, &mut output, &mut outputs.image);
-    let ended = outputs.end(rt, answer_of(&made));
+    let image = made.as_ref().ok().map(|judged| &judged.image);
+    let answer = settle(rt, answer_of(&made), image, None, telling);
+    let ended = outputs.end(rt, answer);
     Performed {
         outcome: Outcome::Answered(ended.answer),
         evidence: Evidence {

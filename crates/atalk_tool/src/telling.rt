@@ -42,6 +42,8 @@ pub struct Telling {
     pub explains: bool,
     /// What is printed on standard output.
     pub lines: Lines,
+    /// Whether it is told of tables that pass whether they stay as they are.
+    pub settled: bool,
 }
 
 /// When a person is told more on standard error.
@@ -106,6 +108,7 @@ impl Terminals {
             watched: self.errors,
             explains: self.errors,
             lines: Lines::Text,
+            settled: false,
         }
     }
 }
@@ -133,6 +136,7 @@ impl Telling {
                 (false, true) => Lines::Json,
                 (false, false) => Lines::Text,
             },
+            settled: request.settled,
             ..telling
         })
     }

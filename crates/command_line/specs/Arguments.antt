@@ -48,9 +48,17 @@ with_quiet app = with_rule (with_explain app) quiet_flag
 abbrev pub with_telling : App → App
 with_telling app = with_rule (with_quiet app) json_flag
 
+-- The flag `--settled`.
+abbrev pub settled_flag : Rule
+settled_flag = record (new_rule (codes "SETTLED")) { long = Some (codes "settled"); action = Some SetTrue }
+
+-- The command, with `--explain WHEN`, `--quiet`, `--json` and `--settled`.
+abbrev pub with_settled : App → App
+with_settled app = with_rule (with_telling app) settled_flag
+
 -- The command `audit FILE..`.
 abbrev pub audit_app : App
-audit_app = with_telling (with_rule (new_app (codes "audit")) (operands (codes "FILE")))
+audit_app = with_settled (with_rule (new_app (codes "audit")) (operands (codes "FILE")))
 
 -- The program `atalk`, without its commands.
 abbrev pub bare_app : App
@@ -79,11 +87,11 @@ tables_play_app = with_rule (with_rule (with_rule (new_app (codes "play")) (oper
 
 -- The same with `--capture OUT`.
 abbrev pub play_app : App
-play_app = with_telling (with_rule tables_play_app capture_option)
+play_app = with_settled (with_rule tables_play_app capture_option)
 
 -- The command `make FILE`, with `--image OUT`.
 abbrev pub make_app : App
-make_app = with_telling (with_rule (with_rule (new_app (codes "make")) (operand (codes "FILE"))) out_option)
+make_app = with_settled (with_rule (with_rule (new_app (codes "make")) (operand (codes "FILE"))) out_option)
 
 -- The command `show IMAGE`.
 abbrev pub show_app : App
@@ -192,11 +200,13 @@ abbrev pub IsMeant : Option (Text × List Row) → Job → Type 0
 IsMeant None job = Audits None job
 IsMeant (Some met) job = IsMeantBy (asked met.0) met.1 job
 
--- What is told, by the options of the command: the word of `--explain`, and whether `--quiet` and `--json` are given.
+-- What is told, by the options of the command: the word of `--explain`, and whether `--quiet`, `--json` and `--settled`
+-- are given.
 abbrev pub IsTold : Option (Text × List Row) → Request → Type 0
-IsTold None r = (r.explain ≡ None) × (r.quiet ≡ false) × (r.json ≡ false)
+IsTold None r = (r.explain ≡ None) × (r.quiet ≡ false) × (r.json ≡ false) × (r.settled ≡ false)
 IsTold (Some met) r = (option_map (λ word. word.now) r.explain ≡ first_of (codes "WHEN") met.1)
     × (r.quiet ≡ is_set (first_of (codes "QUIET") met.1)) × (r.json ≡ is_set (first_of (codes "JSON") met.1))
+    × (r.settled ≡ is_set (first_of (codes "SETTLED") met.1))
 
 -- The source with this name.
 abbrev pub source_for : Bor Text → Source

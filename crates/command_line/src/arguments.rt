@@ -58,6 +58,8 @@ pub struct Request<'a> {
     pub quiet: bool,
     /// Whether `--json` is given.
     pub json: bool,
+    /// Whether `--settled` is given.
+    pub settled: bool,
 }
 
 /// Reads the arguments. The first one is the program's own name.
@@ -109,6 +111,7 @@ fn request_of<'a>(alloc: Global, matches: &ArgMatches<'a>) -> Result<Request<'a>
             explain: word_in(operands, "WHEN"),
             quiet: flag_in(operands, "QUIET"),
             json: flag_in(operands, "JSON"),
+            settled: flag_in(operands, "SETTLED"),
         }),
         None => Ok(Request {
             job: Job::Audit(Source::StandardInput),
@@ -116,6 +119,7 @@ fn request_of<'a>(alloc: Global, matches: &ArgMatches<'a>) -> Result<Request<'a>
             explain: None,
             quiet: false,
             json: false,
+            settled: false,
         }),
     }
 }

@@ -20,7 +20,8 @@ const AFTER_HELP: &str = "Without a command, atalk audits the image on standard 
 
 Exit status:
   0  yes: the tables keep every rule; or a run was made
-  1  no: the line printed names the first rule that is broken, and where
+  1  no: the line printed names the first rule that is broken, and where; or, with --settled, the
+     first row that may change
   2  the input is refused, for the reason that its number gives; or a usage error
   3  out of memory, or reading or writing failed
 
@@ -98,6 +99,10 @@ const QUIET: &str = "Prints nothing on standard output: the exit status tells th
 
 const JSON: &str = "Prints one JSON object a line instead of text";
 
+const SETTLED: &str =
+    "After a yes, also tells whether routing data can still change a route: `settled: yes`, or \
+    `settled: no` with the first row";
+
 /// A required operand.
 fn operand<'a>(alloc: Global, name: &'a str, help: &'a str) -> Arg<'a>
     ensures rule { rule_of result ≡ spec.operand name.entry.now }
@@ -160,6 +165,20 @@ fn with_telling<'a>(alloc: Global, command: Command<'a>) -> Result<Command<'a>, 
     )
 }
 
+/// A command with `--explain WHEN`, `--quiet`, `--json` and `--settled`.
+fn with_settled<'a>(alloc: Global, command: Command<'a>) -> Result<Command<'a>, AllocError>
+    requires local { (fields_of command).has_globals ≡ false }
+    ensures app { IfOk result (λ it. app_of it ≡ spec.with_settled (app_of command.entry)) }
+    ensures local { IfOk result (λ it. (fields_of it).has_globals ≡ false) }
+{
+    with_telling(alloc, command)?.arg(
+        Arg::new(alloc, "SETTLED")
+            .long("settled")
+            .help(SETTLED)
+            .action(ArgAction::SetTrue),
+    )
+}
+
 /// `atalk audit FILE..`.
 fn audit_command<'a>(alloc: Global) -> Result<Command<'a>, AllocError>
     ensures app { IfOk result (λ command. app_of command ≡ audit_app) }
@@ -169,7 +188,7 @@ fn audit_command<'a>(alloc: Global) -> Result<Command<'a>, AllocError>
         .about(AUDIT)
         .after_help(AFTER_COMMAND)
         .arg(operands(alloc, "FILE", IMAGES))?;
-    with_telling(alloc, command)
+    with_settled(alloc, command)
 }
 
 /// `--capture OUT`.
@@ -238,7 +257,7 @@ fn play_command<'a>(alloc: Global) -> Result<Command<'a>, AllocError>
     ensures local { IfOk result (λ command. (fields_of command).has_globals ≡ false) }
 {
     let command = tables_play_command(alloc)?.arg(capture_option(alloc))?;
-    with_telling(alloc, command)
+    with_settled(alloc, command)
 }
 
 /// `atalk make FILE`, with `--image OUT`.
@@ -251,7 +270,7 @@ fn make_command<'a>(alloc: Global) -> Result<Command<'a>, AllocError>
         .after_help(AFTER_COMMAND)
         .arg(operand(alloc, "FILE", TABLES))?
         .arg(image_option(alloc))?;
-    with_telling(alloc, command)
+    with_settled(alloc, command)
 }
 
 /// `atalk show IMAGE`.

@@ -54,14 +54,23 @@ fn formed(alloc: Global, first: &str, words: &str, form: &Form) -> Result<Member
     Ok(members)
 }
 
-/// The object of the line of a no: its rule, and the place, each number by what it counts.
-fn refuted(alloc: Global, words: &str) -> Result<Members, AllocError> {
+/// The object of a line that says yes or no, as the member of this name, of a no after what comes
+/// first: the place, each number by what it counts.
+fn placed(
+    alloc: Global,
+    kind: &str,
+    said: &str,
+    first: Option<&str>,
+    words: &str,
+) -> Result<Members, AllocError> {
     let mut members = Members::new(alloc);
-    members.text("kind", "verdict")?;
-    members.text("verdict", "no")?;
+    members.text("kind", kind)?;
+    members.text(kind, said)?;
     let mut words = words.split(' ');
-    if let Some(rule) = words.next() {
-        members.text("rule", rule)?;
+    if let Some(first) = first {
+        if let Some(word) = words.next() {
+            members.text(first, word)?;
+        }
     }
     while let Some(what) = words.next() {
         match words.next() {
@@ -76,7 +85,11 @@ fn refuted(alloc: Global, words: &str) -> Result<Members, AllocError> {
 pub(crate) fn object_of(alloc: Global, line: &str) -> Result<Option<Members>, AllocError> {
     let (first, words) = line.split_once(' ').unwrap_or((line, ""));
     if first == "no:" {
-        return Ok(Some(refuted(alloc, words)?));
+        return Ok(Some(placed(alloc, "verdict", "no", Some("rule"), words)?));
+    }
+    if first == "settled:" {
+        let (said, words) = words.split_once(' ').unwrap_or((words, ""));
+        return Ok(Some(placed(alloc, "settled", said, None, words)?));
     }
     match form_of(first, words.split(' ').count()) {
         Some(form) => Ok(Some(formed(alloc, first, words, &form)?)),

@@ -52,12 +52,15 @@ of_port k c rows =
 
 -- a port that sends a probe in a tick isn't settled after it
 probes_or_settled : (c : Choice) → ((ticked c).1 ≡ None) ⊎ ((ticked c).0.is_settled ≡ false)
-probes_or_settled c = by c.is_settled (nat_lt c.probes 10) refl refl
+probes_or_settled c = by c.is_settled (nat_lt 0 c.minds.listens) c.minds.is_elsewhere (nat_lt c.probes 10) refl refl refl refl
   where
-    by : (s p : Bool) → c.is_settled ≡ s → nat_lt c.probes 10 ≡ p → ((ticked c).1 ≡ None) ⊎ ((ticked c).0.is_settled ≡ false)
-    by true p e f = inl (rw e refl)
-    by false true e f = inr (rw (e, f) refl)
-    by false false e f = inl (rw (e, f) refl)
+    by : (s l w p : Bool) → c.is_settled ≡ s → nat_lt 0 c.minds.listens ≡ l → c.minds.is_elsewhere ≡ w → nat_lt c.probes 10 ≡ p
+        → ((ticked c).1 ≡ None) ⊎ ((ticked c).0.is_settled ≡ false)
+    by true l w p e f g h = inl (rw e refl)
+    by false true w p e f g h = inl (rw (e, f) refl)
+    by false false true p e f g h = inl (rw (e, f, g) refl)
+    by false false false true e f g h = inr (rw (e, f, g, h) refl)
+    by false false false false e f g h = inl (rw (e, f, g, h) refl)
 
 -- a port that isn't settled sends no routing data
 pair_few : (k : ℕ) (c : Choice) (probe : Option Packet) (rows : List Row) → (probe ≡ None) ⊎ (c.is_settled ≡ false)

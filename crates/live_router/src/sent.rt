@@ -66,7 +66,15 @@ fn put_packet<T: RouteTable>(
         → AreMade n made.new.items }
     ensures refused { IsOkUnless result Error.Memory }
 {
-    let packet = write_data(*made.allocator(), routes, Horizon::Split, port, range, me, number)?;
+    let packet = write_data(
+        *made.allocator(),
+        routes,
+        Horizon::Split,
+        port,
+        range,
+        me,
+        number,
+    )?;
     put_one(made, &Some(data_way(port, me)), &packet)
 }
 

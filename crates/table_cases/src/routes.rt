@@ -9,7 +9,8 @@ use crate::spelling::put_groups;
 use at_base::{Addr, Bytes, Error, Range};
 use case_words::{Answer, Stop, Words, put_hex};
 use rtmp::{
-    Change, DataPacket, Horizon, Nonextended, RouteTable, Row, hear_packet, write_data, write_response,
+    Change, DataPacket, Horizon, Nonextended, RouteTable, Row, hear_packet, write_data,
+    write_response,
 };
 use std::alloc::{AllocError, Global};
 
@@ -74,7 +75,12 @@ fn hear_bytes<T: RouteTable>(alloc: Global, table: &mut T, mut words: Words<'_>)
     let port = words.named("port")?;
     let nonextended = nonextended(&mut words);
     let bytes = words.bytes(alloc)?;
-    hear_packet(table, &DataPacket::read(bytes.as_slice())?, port, nonextended)?;
+    hear_packet(
+        table,
+        &DataPacket::read(bytes.as_slice())?,
+        port,
+        nonextended,
+    )?;
     Ok(())
 }
 
