@@ -6,7 +6,7 @@ audit:
 	@scripts/build
 
 test:
-	rt ci
+	@scripts/gate
 
 try:
 	@scripts/try
