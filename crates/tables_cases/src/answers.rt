@@ -4,6 +4,7 @@ use at_base::Error;
 use audit::audit;
 use case_words::{Answer, Stop, put_line};
 use drawing::print_drawing;
+use settled::settled;
 use std::alloc::{AllocError, Global};
 use table_image::{Image, write};
 use tables_text::print_tables;
@@ -31,7 +32,7 @@ fn shown(alloc: Global, image: &Image) -> Result<Vec<u8>, Stop> {
 /// Appends the drawing of an image, with its verdict and the ways to a network, if one is asked for.
 pub(crate) fn draw(alloc: Global, image: &Image, to: Option<u16>, text: &mut String) -> Answer {
     let mut output = Output::new(alloc, Vec::with_capacity(alloc, ROOM)?);
-    print_drawing(&mut output, image, &audit(image), to)?;
+    print_drawing(&mut output, image, &audit(image), settled(image), to)?;
     output.flush()?;
     put_ascii(text, output.writer.as_slice())?;
     Ok(())

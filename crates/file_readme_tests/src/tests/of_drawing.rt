@@ -4,6 +4,7 @@ use at_base::Error;
 use audit::audit;
 use drawing::print_drawing;
 use image_feed::read;
+use settled::settled;
 use std::alloc::Global;
 use std::io::Write;
 use std::test::*;
@@ -18,7 +19,7 @@ fn draw<W: Write>(
 ) -> Result<(), Error> {
     let image = read(alloc, image)?;
     let verdict = audit(&image);
-    print_drawing(output, &image, &verdict, to)?;
+    print_drawing(output, &image, &verdict, settled(&image), to)?;
     output.flush()
 }
 
