@@ -38,12 +38,15 @@ class Made:
     def __init__(self, chance):
         self.chance = chance
         self.nodes = []
-        count = chance.randint(1, 9) if chance.random() < 0.98 else chance.randint(15, 40)
+        count = self.cable_count()
         starts = sorted(chance.sample(range(1, 6000), count))
         ends = [chance.randint(a, b - 1) for a, b in zip(starts, starts[1:] + [6500])]
         self.cables = list(zip(starts, ends))
         self.zones = [self.some_zones() for _ in self.cables]
         self.routers = self.some_routers(count)
+
+    def cable_count(self):
+        return self.chance.randint(1, 9) if self.chance.random() < 0.98 else self.chance.randint(15, 40)
 
     def some_zones(self):
         names, known = [], set()
