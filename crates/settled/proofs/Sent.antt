@@ -1,5 +1,6 @@
 -- Routing data that a router sends is read back.
-use Rattle.std.proofs.Common.{◌≡◌, ℕ, List, Option, Some, None, refl, sym, ap, ◌∙◌, subst}
+use Rattle.std.proofs.Common.{◌≡◌, ℕ, List, Option, Some, None, Result, Ok, Err, refl, sym, ap, ◌∙◌}
+use Rattle.std.specs.Prelude.{OnOk}
 use Rattle.at_base.specs.Packets.{packets}
 use Rattle.at_base.specs.Reading.{value_of}
 use Rattle.at_base.specs.Spelling.{Spells}
@@ -28,3 +29,8 @@ none_sent (Some p) s = absurd s
 pub some_sent : (o : Option RoutingData) (bytes : List ℕ) → IsPacket o (Some bytes) → routing_in bytes ≡ None → ⊥
 some_sent None bytes s e = cc
 some_sent (Some p) bytes s e = let f : Some p ≡ None = sym (spelled_in p bytes s) ∙ e in cc
+
+-- what follows where a call succeeds
+pub on_ok : {A E P Q : Type 0} → (result : Result A E) → OnOk result P → (P → Q) → OnOk result Q
+on_ok (Ok value) p follows = follows p
+on_ok (Err e) p follows = p

@@ -5,7 +5,7 @@ use Rattle.at_base.specs.declared.error.Place.{Place}
 use Rattle.at_base.specs.declared.error.Place.TheVariants as place
 use Rattle.audit.specs.Rules.{at_row}
 use Rattle.settled.specs.Offers.{has_nearer_offer, is_nearer_offer, is_on}
-use Rattle.settled.specs.declared.offered.Offer.{Offer}
+use Rattle.settled.specs.declared.offering.Offer.{Offer}
 use Rattle.table_image.specs.Internet.{Internet}
 use Rattle.table_image.specs.declared.port.Port.{Port}
 use Rattle.table_image.specs.declared.row.Row.{Row}
@@ -26,23 +26,26 @@ row_offering cable row s m (o ∷ rows) =
 abbrev pub row_of : ℕ → Row → Router → Option (ℕ × ℕ)
 row_of cable row s = if is_on cable s then row_offering cable row s 1 s.rows else None
 
+-- the offer of router s on the cable by the row that was found, or else a later offer
+abbrev pub offer_or : ℕ → ℕ → Option (ℕ × ℕ) → Option Offer → Option Offer
+offer_or cable s None later = later
+offer_or cable s (Some found) later = Some (record { cable = cable + 1; router = s; row = found.0; distance = found.1 })
+
 -- the first of these routers that offers the range of the row, nearer, on the cable; the first of them has number s
 abbrev pub router_offering : ℕ → Row → ℕ → List Router → Option Offer
 router_offering cable row s [] = None
-router_offering cable row s (router ∷ routers) = made (row_of cable row router)
-  where
-    made : Option (ℕ × ℕ) → Option Offer
-    made None = router_offering cable row (next_number s) routers
-    made (Some found) = Some (record { cable = cable + 1; router = s; row = found.0; distance = found.1 })
+router_offering cable row s (router ∷ routers) =
+    offer_or cable s (row_of cable row router) (router_offering cable row (next_number s) routers)
+
+-- the first one, or else the later one
+abbrev pub first_or : Option Offer → Option Offer → Option Offer
+first_or None later = later
+first_or (Some o) later = Some o
 
 -- the first offer on the cables of these ports
 abbrev pub port_offering : Row → List Router → List Port → Option Offer
 port_offering row routers [] = None
-port_offering row routers (p ∷ ports) = or_later (router_offering p.cable row 1 routers)
-  where
-    or_later : Option Offer → Option Offer
-    or_later None = port_offering row routers ports
-    or_later (Some o) = Some o
+port_offering row routers (p ∷ ports) = first_or (router_offering p.cable row 1 routers) (port_offering row routers ports)
 
 -- the first offer to a row of this router, if there is such a row
 abbrev pub offer_in : Internet → Router → Option Row → Option Offer

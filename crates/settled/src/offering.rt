@@ -1,6 +1,6 @@
 //! Who offers the range of a row nearer than the row.
 
-ghost use Rattle.std.specs.Prelude.{◌≡◌, false, IfNone};
+ghost use Rattle.std.specs.Prelude.{◌≡◌, false, IfNone, Some, slice_get};
 ghost use Rattle.settled.specs.Offered as spec;
 ghost use Rattle.settled.specs.Offered.{has_offer, next_number, offer_to};
 
@@ -99,6 +99,16 @@ fn offer_by(image: &Image, k: usize, router: &Router) -> Option<Offer>
     }
 }
 
+/// The first offer to the row with index `k` of the router with index `r`, if there is such a row.
+fn offer_at(image: &Image, r: usize, k: usize) -> Option<Offer>
+    ensures { result ≡ spec.offer_by image.now k (slice_get image.now.routers r) }
+{
+    match image.routers().get(r) {
+        Some(router) => offer_by(image, k, router),
+        None => None,
+    }
+}
+
 /// Who offers the range of the row at a place nearer than the row, so that its router takes another
 /// way: the first offer, by the ports of the row's router, then by the routers, then by their rows;
 /// none at a place that `settled` doesn't name, or where the row isn't usable and nobody offers its
@@ -115,8 +125,5 @@ pub fn nearer_offer(image: &Image, place: Place) -> Option<Offer>
     if r == 0 || k == 0 {
         return None;
     }
-    match image.routers().get(r as usize - 1) {
-        Some(router) => offer_by(image, k as usize - 1, router),
-        None => None,
-    }
+    offer_at(image, r as usize - 1, k as usize - 1)
 }
