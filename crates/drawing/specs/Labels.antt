@@ -35,10 +35,14 @@ part_text _ = []
 abbrev pub fault_line : Fault → List ℕ
 fault_line f = codes "\\nC" ++ decimal f.rule ++ part_text f.place
 
+-- The last line of an orange label: the row that may change, as `may change: row 3`.
+abbrev pub change_line : Place → List ℕ
+change_line p = codes "\\nmay change:" ++ part_text p
+
 -- The last line of the label of a mark: the broken rule, or the row that may change.
 abbrev pub mark_line : Mark → List ℕ
 mark_line (Broken f) = fault_line f
-mark_line (MayChange p) = codes "\\nmay change:" ++ part_text p
+mark_line (MayChange p) = change_line p
 
 -- The end of the label of a mark, and of its line in the drawing: red where a rule is broken, orange where a row may
 -- change.

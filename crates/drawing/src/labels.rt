@@ -4,7 +4,7 @@ ghost use Rattle.std.specs.Prelude.{◌≡◌, ◌++◌, ◌+◌, OnOk, if◌the
 ghost use Rattle.std.specs.List.{flat_map};
 ghost use Rattle.at_base.specs.Text as text_spec;
 ghost use Rattle.drawing.specs.Labels as spec;
-ghost use Rattle.drawing.specs.Labels.{fault_line, label_end, mark_line, marked_end, number, part_text};
+ghost use Rattle.drawing.specs.Labels.{change_line, fault_line, label_end, mark_line, marked_end, number, part_text};
 ghost use Rattle.drawing.specs.Labels.{shown, text_line};
 
 use crate::marks::Mark;
@@ -106,6 +106,14 @@ fn put_fault(text: &mut Vec<u8>, fault: Fault) -> Result<(), AllocError>
     put_part(text, fault.place)
 }
 
+/// Appends the row that may change, as the last line of an orange label.
+fn put_change(text: &mut Vec<u8>, place: Place) -> Result<(), AllocError>
+    ensures { OnOk result (text.new.items ≡ text.old.items ++ change_line place) }
+{
+    put_letters(text, b"\\nmay change:")?;
+    put_part(text, place)
+}
+
 /// The end of the label of a mark, and of its line: its colour.
 fn ending(mark: Mark) -> &'static [u8]
     ensures { result.now ≡ spec.ending mark }
@@ -122,10 +130,7 @@ fn put_mark(text: &mut Vec<u8>, mark: Mark) -> Result<(), AllocError>
 {
     match mark {
         Mark::Broken(fault) => put_fault(text, fault),
-        Mark::MayChange(place) => {
-            text.extend_from_slice(b"\\nmay change:")?;
-            put_part(text, place)
-        }
+        Mark::MayChange(place) => put_change(text, place),
     }
 }
 

@@ -4,5 +4,6 @@ use Rattle.drawing.proofs.labels.put_marked_end.Goals as goal
 
 pub returns : goal.returns
 returns c =
-    on_ok c.put_letters.result c.put_letters.ensures
-    (λ last. put_then c.args.text.now.items _ _ c.in_ok-put_mark.ensures last)
+    rw (← c.ending.ensures)
+    (on_ok c.put_letters.result c.put_letters.ensures
+    (λ last. put_then c.args.text.now.items _ _ c.in_ok-put_mark.ensures last))
