@@ -3,13 +3,15 @@ import collections
 import json
 import re
 
+from settled_model import settling
+
 # A shape that Graphviz reads: its name, the lines of its label, and its colour.
 Shape = collections.namedtuple("Shape", "name lines color")
 # An edge that Graphviz reads: the names of its ends, the lines of its label, its colour, and whether it is an arrow.
 Edge = collections.namedtuple("Edge", "tail head lines color arrow")
 Drawing = collections.namedtuple("Drawing", "title shapes edges")
 
-RED, BLUE = "red", "blue"
+RED, BLUE, ORANGE = "red", "blue", "darkorange"
 
 
 def spelled(address):
@@ -21,13 +23,17 @@ def shown(text):
     return "".join(chr(byte) if 0x20 <= byte <= 0x7E else "?" for byte in text)
 
 
-class Red:
-    """The place of a verdict line that says no, and the line that its label ends with."""
+class Mark:
+    """The place of a verdict line that says no, or the first row that may change after a yes; and the line that its label ends with."""
 
-    def __init__(self, verdict):
+    def __init__(self, image, verdict):
         told = re.fullmatch(r"no: (C\d+) (cable|router|node) (\d+)(?: (\w+) (\d+))?", verdict)
-        self.place = self.line = None
+        changes = verdict.startswith("yes:") and re.fullmatch(r"settled: no router (\d+) row (\d+)", settling(image))
+        self.place = self.line = self.color = None
+        if changes:
+            self.place, self.line, self.color = ("router", int(changes[1])), f"may change: row {changes[2]}", ORANGE
         if told:
+            self.color = RED
             rule, what, number, part, index = told.groups()
             if what == "router" and part == "port":
                 self.place, self.line = ("port", int(number), int(index)), rule
@@ -38,7 +44,7 @@ class Red:
 
     def of(self, *place):
         """The further lines of a place's label, and its colour."""
-        return ([self.line], RED) if place == self.place else ([], None)
+        return ([self.line], self.color) if place == self.place else ([], None)
 
 
 def hand(image, router, network):
@@ -60,7 +66,7 @@ class Expected:
     """The drawing of an image with this verdict line, for a network if there is one."""
 
     def __init__(self, image, verdict, network):
-        self.image, self.red, self.network = image, Red(verdict), network
+        self.image, self.mark, self.network = image, Mark(image, verdict), network
         self.shapes, self.edges = [], []
         self.cables()
         for r, router in enumerate(image.routers, 1):
@@ -71,7 +77,7 @@ class Expected:
         self.drawing = Drawing(title, sorted(self.shapes), sorted(self.edges, key=repr))
 
     def shape(self, letter, what, number, lines):
-        last, color = self.red.of(what, number)
+        last, color = self.mark.of(what, number)
         self.shapes.append(Shape(f"{letter}{number}", [f"{what} {number}", *lines, *last], color))
 
     def edge(self, tail, head, lines=(), color=None, arrow=False):
@@ -85,7 +91,7 @@ class Expected:
         lost = self.network is not None and hand(self.image, router, self.network) is None
         self.shape("r", "router", r, ["no route"] if lost else [])
         for p, port in enumerate(router.ports, 1):
-            last, color = self.red.of("port", r, p)
+            last, color = self.mark.of("port", r, p)
             self.edge(f"r{r}", f"c{port[0] + 1}", [spelled(port[1]), *last], color)
 
     def nodes(self):

@@ -10,11 +10,13 @@ use audit::Verdict;
 use command_line::{Outcome, Source};
 use commands::{Answer, AtFault, Judged, Refused};
 use file_advice::Format;
-use image_advice::{explain_flaw, explain_kind, explain_no, write_yes};
+use image_advice::{explain_flaw, explain_kind, explain_no, write_unsettled, write_yes};
 use reply_advice::Replies;
+use settled::{Settling, settled};
 use std::alloc::{AllocError, Global};
 use std::io;
 use std::io::{ErrorKind, Write};
+use table_image::Image;
 
 /// Facts about a run of the program besides its outcome.
 #[derive(Drop)]
@@ -25,6 +27,8 @@ pub struct Evidence<'a> {
     pub refused: Option<Refused>,
     /// The image, and the verdict on it.
     pub judged: Option<Judged>,
+    /// Whether it was asked of tables that pass whether they are settled.
+    pub settled: bool,
     /// The file for the image or the capture, if it couldn't be written.
     pub missed: Option<Missed<'a>>,
     /// What the file was read as that was played or made.
@@ -50,6 +54,7 @@ impl<'a> Evidence<'a> {
             source,
             refused: None,
             judged: None,
+            settled: false,
             missed: None,
             format: Format::Internet,
             undone: None,
@@ -144,7 +149,8 @@ fn explain_run(rt: &(impl Eprint + AllocGlobal), evidence: &Evidence<'_>) -> io:
     }
 }
 
-/// What a yes doesn't cover, a line for each: nothing of a no.
+/// What a yes doesn't cover, a line for each, and why its tables may still change, if that was asked:
+/// nothing of a no.
 pub fn notes_of(alloc: Global, evidence: &Evidence<'_>) -> io::Result<Vec<u8>> {
     let mut notes = Vec::new(alloc);
     match &evidence.judged {
@@ -153,10 +159,24 @@ pub fn notes_of(alloc: Global, evidence: &Evidence<'_>) -> io::Result<Vec<u8>> {
                 image,
                 verdict: Verdict::Yes(_),
             },
-        ) => write_yes(&mut notes, image)?,
+        ) => {
+            write_yes(&mut notes, image)?;
+            write_settling(&mut notes, image, evidence.settled)?;
+        }
         _ => {}
     }
     Ok(notes)
+}
+
+/// Writes why tables may still change, if that was asked and they may.
+fn write_settling<W: Write>(writer: &mut W, image: &Image, asked: bool) -> io::Result<()> {
+    if !asked {
+        return Ok(());
+    }
+    match settled(image) {
+        Settling::No(place) => write_unsettled(writer, image, place),
+        Settling::Yes => Ok(()),
+    }
 }
 
 /// Explains a no, or what a yes doesn't cover.

@@ -50,7 +50,10 @@ fn audit_reader<'a, R: Print + AllocGlobal, S: Read + Drop>(
     let answer = settle(rt, answer_of(&audited), image, it.name, telling);
     Performed {
         outcome: Outcome::Answered(answer),
-        evidence: Evidence::of_worked(it.source, audited),
+        evidence: Evidence {
+            settled: telling.settled,
+            ..Evidence::of_worked(it.source, audited)
+        },
     }
 }
 

@@ -149,6 +149,7 @@ fn play_reader<'a, R: Files + Print + Eprint + AllocGlobal, S: Read + Drop>(
             missed: job.wanted.missed(ended.unwritten),
             undone: told_of(rt, job, &played, bytes_of(&text), telling),
             replies: replies_of(rt, &played, telling),
+            settled: telling.settled,
             unanswered: unanswered_of(rt, &played, telling),
             ..Evidence::of_worked(job.source, played)
         },

@@ -54,6 +54,7 @@ fn make_reader<'a, R: Files + Print + AllocGlobal, S: Read + Drop>(
         evidence: Evidence {
             missed: job.wanted.missed(ended.unwritten),
             format: Format::Tables,
+            settled: telling.settled,
             ..Evidence::of_worked(job.source, made)
         },
     }

@@ -9,6 +9,8 @@ ghost use Rattle.commands.specs.Outputs.{Wrote};
 ghost use Rattle.commands.specs.Streams.{IsImageRefused, ReadsImage};
 ghost use Rattle.commands.specs.declared.refused.Origin.TheVariants as OriginValue;
 ghost use Rattle.drawing.specs.Drawing.{drawing_text};
+ghost use Rattle.settled.specs.Settling.{IsSettling};
+ghost use Rattle.settled.specs.declared.settling.Settling.{Settling};
 ghost use Rattle.table_image.specs.Internet.{Internet};
 ghost use Rattle.table_image.specs.Spelling.{image_spelling};
 ghost use Rattle.tables_text.specs.Tables.{tables_text};
@@ -19,6 +21,7 @@ use crate::refused::Refused;
 use at_base::Error;
 use audit::audit;
 use drawing::print_drawing;
+use settled::settled;
 use std::alloc::Global;
 use std::io::{Read, Write};
 use table_image::Image;
@@ -78,14 +81,15 @@ fn print_drawn<W: Write>(
     to: Option<u16>,
     output: &mut Output<W>,
 ) -> Result<(), Error>
-    ensures printed { OnOk result ((v : Verdict) × Judges image.now v
+    ensures printed { OnOk result ((v : Verdict) × (s : Settling) × Judges image.now v
+        × IsSettling image.now s
         × Appends (W.contents output.old.writer) (W.contents output.new.writer)
-        (output.old.text.items ++ drawing_text image.now v to)) }
+        (output.old.text.items ++ drawing_text image.now v s to)) }
     ensures prints { Prints output.old.faults output.new.faults result }
     ensures empty { OnOk result (output.new.text.items ≡ []) }
 {
     let verdict = audit(image);
-    print_drawing(output, image, &verdict, to)?;
+    print_drawing(output, image, &verdict, settled(image), to)?;
     output.flush()
 }
 
@@ -101,9 +105,10 @@ pub fn draw_image<R: Read, W: Write>(
     // For a reader whose bytes are known: they spell an image, and its drawing was written, after
     // the text that was buffered.
     ensures written { OnOk result (IfSome (R.remaining input.old) (λ bytes.
-        (i : Internet) × (v : Verdict) × Spells image_spelling bytes i × Judges i v
+        (i : Internet) × (v : Verdict) × (s : Settling) × Spells image_spelling bytes i
+        × Judges i v × IsSettling i s
         × Appends (W.contents output.old.writer) (W.contents output.new.writer)
-        (output.old.text.items ++ drawing_text i v to))) }
+        (output.old.text.items ++ drawing_text i v s to))) }
     ensures named { IfErr result (λ r. (r.origin ≡ OriginValue.Input)
         × (IsImageRefused r.error ⊎ (r.error ≡ Error.WriteFault))) }
     ensures read { ReadsImage (R.remaining input.old) (R.remaining input.new) result }

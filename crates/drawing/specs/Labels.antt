@@ -5,6 +5,8 @@ use Rattle.std.specs.Fmt.{decimal}
 use Rattle.std.specs.List.{flat_map}
 use Rattle.at_base.specs.Text.{is_printable}
 use Rattle.at_base.specs.declared.error.Fault.{Fault}
+use Rattle.drawing.specs.declared.marks.Mark.{Mark}
+use Rattle.drawing.specs.declared.marks.Mark.TheVariants.{Broken, MayChange}
 use Rattle.at_base.specs.declared.error.Place.{Place}
 use Rattle.at_base.specs.declared.error.Place.TheVariants as place
 
@@ -33,11 +35,26 @@ part_text _ = []
 abbrev pub fault_line : Fault → List ℕ
 fault_line f = codes "\\nC" ++ decimal f.rule ++ part_text f.place
 
--- The end of a red label, and of its line in the drawing.
-abbrev pub red_end : Fault → List ℕ
-red_end f = fault_line f ++ codes "\", color=red, fontcolor=red];\n"
+-- The last line of an orange label: the row that may change, as `may change: row 3`.
+abbrev pub change_line : Place → List ℕ
+change_line p = codes "\\nmay change:" ++ part_text p
 
--- The end of a label, and of its line: red where there is a fault.
-abbrev pub label_end : Option Fault → List ℕ
+-- The last line of the label of a mark: the broken rule, or the row that may change.
+abbrev pub mark_line : Mark → List ℕ
+mark_line (Broken f) = fault_line f
+mark_line (MayChange p) = change_line p
+
+-- The end of the label of a mark, and of its line in the drawing: red where a rule is broken, orange where a row may
+-- change.
+abbrev pub ending : Mark → List ℕ
+ending (Broken f) = codes "\", color=red, fontcolor=red];\n"
+ending (MayChange p) = codes "\", color=darkorange, fontcolor=darkorange];\n"
+
+-- What ends the label of a mark.
+abbrev pub marked_end : Mark → List ℕ
+marked_end m = mark_line m ++ ending m
+
+-- The end of a label, and of its line.
+abbrev pub label_end : Option Mark → List ℕ
 label_end None = codes "\"];\n"
-label_end (Some f) = red_end f
+label_end (Some m) = marked_end m

@@ -1,5 +1,5 @@
 pub mod Drawing
-pub mod Faults
+pub mod Marks
 pub mod Hands
 pub mod Labels
 pub mod Shapes

@@ -3,9 +3,11 @@
 ghost use Rattle.std.specs.Prelude.{◌≡◌, ◌++◌, ◌+◌, OnOk, if◌then◌else◌};
 ghost use Rattle.std.specs.List.{flat_map};
 ghost use Rattle.at_base.specs.Text as text_spec;
-ghost use Rattle.drawing.specs.Labels.{fault_line, label_end, number, part_text, red_end};
+ghost use Rattle.drawing.specs.Labels as spec;
+ghost use Rattle.drawing.specs.Labels.{change_line, fault_line, label_end, mark_line, marked_end, number, part_text};
 ghost use Rattle.drawing.specs.Labels.{shown, text_line};
 
+use crate::marks::Mark;
 use at_base::{Fault, Place};
 use std::alloc::AllocError;
 use text::put_decimal;
@@ -95,7 +97,7 @@ fn put_part(text: &mut Vec<u8>, place: Place) -> Result<(), AllocError>
     }
 }
 
-/// Appends the last line of a red label.
+/// Appends the broken rule, as the last line of a red label.
 fn put_fault(text: &mut Vec<u8>, fault: Fault) -> Result<(), AllocError>
     ensures { OnOk result (text.new.items ≡ text.old.items ++ fault_line fault) }
 {
@@ -104,20 +106,48 @@ fn put_fault(text: &mut Vec<u8>, fault: Fault) -> Result<(), AllocError>
     put_part(text, fault.place)
 }
 
-/// Appends the end of a red label, and of its line.
-fn put_red_end(text: &mut Vec<u8>, fault: Fault) -> Result<(), AllocError>
-    ensures { OnOk result (text.new.items ≡ text.old.items ++ red_end fault) }
+/// Appends the row that may change, as the last line of an orange label.
+fn put_change(text: &mut Vec<u8>, place: Place) -> Result<(), AllocError>
+    ensures { OnOk result (text.new.items ≡ text.old.items ++ change_line place) }
 {
-    put_fault(text, fault)?;
-    put_letters(text, b"\", color=red, fontcolor=red];\n")
+    put_letters(text, b"\\nmay change:")?;
+    put_part(text, place)
+}
+
+/// The end of the label of a mark, and of its line: its colour.
+fn ending(mark: Mark) -> &'static [u8]
+    ensures { result.now ≡ spec.ending mark }
+{
+    match mark {
+        Mark::Broken(_) => b"\", color=red, fontcolor=red];\n",
+        Mark::MayChange(_) => b"\", color=darkorange, fontcolor=darkorange];\n",
+    }
+}
+
+/// Appends the last line of the label of a mark.
+fn put_mark(text: &mut Vec<u8>, mark: Mark) -> Result<(), AllocError>
+    ensures { OnOk result (text.new.items ≡ text.old.items ++ mark_line mark) }
+{
+    match mark {
+        Mark::Broken(fault) => put_fault(text, fault),
+        Mark::MayChange(place) => put_change(text, place),
+    }
+}
+
+/// Appends the end of the label of a mark, and of its line.
+fn put_marked_end(text: &mut Vec<u8>, mark: Mark) -> Result<(), AllocError>
+    ensures { OnOk result (text.new.items ≡ text.old.items ++ marked_end mark) }
+{
+    put_mark(text, mark)?;
+    put_letters(text, ending(mark))
 }
 
 /// Appends the end of a label, and of its line.
-pub(crate) fn put_end(text: &mut Vec<u8>, fault: Option<Fault>) -> Result<(), AllocError>
-    ensures { OnOk result (text.new.items ≡ text.old.items ++ label_end fault) }
+pub(crate) fn put_end(text: &mut Vec<u8>, mark: Option<Mark>) -> Result<(), AllocError>
+    ensures { OnOk result (text.new.items ≡ text.old.items ++ label_end mark) }
 {
-    match fault {
+    match mark {
         None => text.extend_from_slice(b"\"];\n"),
-        Some(found) => put_red_end(text, found),
+        Some(found) => put_marked_end(text, found),
     }
 }

@@ -1,10 +1,10 @@
 //! The drawing of an internet in Graphviz' language, with the verdict of its audit.
 #![tactic(auto)]
 
-mod faults;
 mod hands;
 mod head;
 mod labels;
+mod marks;
 mod printing;
 mod routes;
 mod shapes;

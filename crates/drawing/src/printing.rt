@@ -8,13 +8,14 @@ ghost use Rattle.drawing.specs.Shapes.{router_lines};
 ghost use Rattle.text.specs.Going.{Goes};
 ghost use Rattle.text.specs.Writing.{Prints};
 
-use crate::faults::fault_of;
 use crate::hands::hand_of;
 use crate::head::put_head;
+use crate::marks::{Mark, mark_of};
 use crate::routes::put_arrow;
 use crate::shapes::{put_cable, put_node, put_port, put_router};
-use at_base::{Error, Fault};
+use at_base::Error;
 use audit::Verdict;
+use settled::Settling;
 use std::io::Write;
 use table_image::{Cable, Image, Node, Port, Router};
 use text::Output;
@@ -46,35 +47,35 @@ fn print_head<W: Write>(
 /// Prints a cable.
 fn print_cable<W: Write>(
     output: &mut Output<W>,
-    fault: Option<Fault>,
+    mark: Option<Mark>,
     k: u8,
     cable: &Cable,
 ) -> Result<(), Error>
     ensures gone { OnOk result (Goes (W.contents output.old.writer) output.old.text.items
-        (cable_line fault k cable.now) (W.contents output.new.writer) output.new.text.items) }
+        (cable_line mark k cable.now) (W.contents output.new.writer) output.new.text.items) }
     ensures prints { Prints output.old.faults output.new.faults result }
 {
-    put_cable(&mut output.text, fault, k, cable)?;
+    put_cable(&mut output.text, mark, k, cable)?;
     output.pass_on()
 }
 
 /// Prints cables, of which the first has index `k`.
 fn print_cables<W: Write>(
     output: &mut Output<W>,
-    fault: Option<Fault>,
+    mark: Option<Mark>,
     k: u8,
     cables: &[Cable],
 ) -> Result<(), Error>
     requires { k + length cables.now ≤ 255 }
     ensures gone { OnOk result (Goes (W.contents output.old.writer) output.old.text.items
-        (each_from (cable_line fault) k cables.now) (W.contents output.new.writer) output.new.text.items) }
+        (each_from (cable_line mark) k cables.now) (W.contents output.new.writer) output.new.text.items) }
     ensures prints { Prints output.old.faults output.new.faults result }
 {
     match cables {
         [] => Ok(()),
         [first, rest @ ..] => {
-            print_cable(output, fault, k, first)?;
-            print_cables(output, fault, k + 1, rest)
+            print_cable(output, mark, k, first)?;
+            print_cables(output, mark, k + 1, rest)
         }
     }
 }
@@ -82,38 +83,38 @@ fn print_cables<W: Write>(
 /// Prints a port.
 fn print_port<W: Write>(
     output: &mut Output<W>,
-    fault: Option<Fault>,
+    mark: Option<Mark>,
     r: u8,
     p: usize,
     port: &Port,
 ) -> Result<(), Error>
     requires { p + 1 < 2 ^ 64 }
     ensures gone { OnOk result (Goes (W.contents output.old.writer) output.old.text.items
-        (port_line fault r p port.now) (W.contents output.new.writer) output.new.text.items) }
+        (port_line mark r p port.now) (W.contents output.new.writer) output.new.text.items) }
     ensures prints { Prints output.old.faults output.new.faults result }
 {
-    put_port(&mut output.text, fault, r, p, port)?;
+    put_port(&mut output.text, mark, r, p, port)?;
     output.pass_on()
 }
 
 /// Prints ports of a router, of which the first has index `p`.
 fn print_ports<W: Write>(
     output: &mut Output<W>,
-    fault: Option<Fault>,
+    mark: Option<Mark>,
     r: u8,
     p: usize,
     ports: &[Port],
 ) -> Result<(), Error>
     requires { p + length ports.now < 2 ^ 64 }
     ensures gone { OnOk result (Goes (W.contents output.old.writer) output.old.text.items
-        (each_from (port_line fault r) p ports.now) (W.contents output.new.writer) output.new.text.items) }
+        (each_from (port_line mark r) p ports.now) (W.contents output.new.writer) output.new.text.items) }
     ensures prints { Prints output.old.faults output.new.faults result }
 {
     match ports {
         [] => Ok(()),
         [first, rest @ ..] => {
-            print_port(output, fault, r, p, first)?;
-            print_ports(output, fault, r, p + 1, rest)
+            print_port(output, mark, r, p, first)?;
+            print_ports(output, mark, r, p + 1, rest)
         }
     }
 }
@@ -121,31 +122,31 @@ fn print_ports<W: Write>(
 /// Prints the ports of a router.
 fn print_all_ports<W: Write>(
     output: &mut Output<W>,
-    fault: Option<Fault>,
+    mark: Option<Mark>,
     r: u8,
     router: &Router,
 ) -> Result<(), Error>
     ensures gone { OnOk result (Goes (W.contents output.old.writer) output.old.text.items
-        (each_from (port_line fault r) 0 router.now.ports)
+        (each_from (port_line mark r) 0 router.now.ports)
         (W.contents output.new.writer) output.new.text.items) }
     ensures prints { Prints output.old.faults output.new.faults result }
 {
-    print_ports(output, fault, r, 0, router.ports.as_slice())
+    print_ports(output, mark, r, 0, router.ports.as_slice())
 }
 
 /// Prints the line of a router.
 fn print_router_line<W: Write>(
     output: &mut Output<W>,
     image: &Image,
-    fault: Option<Fault>,
+    mark: Option<Mark>,
     to: Option<u16>,
     r: u8,
 ) -> Result<(), Error>
     ensures gone { OnOk result (Goes (W.contents output.old.writer) output.old.text.items
-        (router_line image.now fault to r) (W.contents output.new.writer) output.new.text.items) }
+        (router_line image.now mark to r) (W.contents output.new.writer) output.new.text.items) }
     ensures prints { Prints output.old.faults output.new.faults result }
 {
-    put_router(&mut output.text, image, fault, to, r)?;
+    put_router(&mut output.text, image, mark, to, r)?;
     output.pass_on()
 }
 
@@ -153,40 +154,40 @@ fn print_router_line<W: Write>(
 fn print_router<W: Write>(
     output: &mut Output<W>,
     image: &Image,
-    fault: Option<Fault>,
+    mark: Option<Mark>,
     to: Option<u16>,
     r: u8,
     router: &Router,
 ) -> Result<(), Error>
     ensures gone { OnOk result (Goes (W.contents output.old.writer) output.old.text.items
-        (router_lines image.now fault to r router.now)
+        (router_lines image.now mark to r router.now)
         (W.contents output.new.writer) output.new.text.items) }
     ensures prints { Prints output.old.faults output.new.faults result }
 {
-    print_router_line(output, image, fault, to, r)?;
-    print_all_ports(output, fault, r, router)
+    print_router_line(output, image, mark, to, r)?;
+    print_all_ports(output, mark, r, router)
 }
 
 /// Prints routers, of which the first has index `r`.
 fn print_routers<W: Write>(
     output: &mut Output<W>,
     image: &Image,
-    fault: Option<Fault>,
+    mark: Option<Mark>,
     to: Option<u16>,
     r: u8,
     routers: &[Router],
 ) -> Result<(), Error>
     requires { r + length routers.now ≤ 255 }
     ensures gone { OnOk result (Goes (W.contents output.old.writer) output.old.text.items
-        (each_from (router_lines image.now fault to) r routers.now)
+        (each_from (router_lines image.now mark to) r routers.now)
         (W.contents output.new.writer) output.new.text.items) }
     ensures prints { Prints output.old.faults output.new.faults result }
 {
     match routers {
         [] => Ok(()),
         [first, rest @ ..] => {
-            print_router(output, image, fault, to, r, first)?;
-            print_routers(output, image, fault, to, r + 1, rest)
+            print_router(output, image, mark, to, r, first)?;
+            print_routers(output, image, mark, to, r + 1, rest)
         }
     }
 }
@@ -194,35 +195,35 @@ fn print_routers<W: Write>(
 /// Prints a node.
 fn print_node<W: Write>(
     output: &mut Output<W>,
-    fault: Option<Fault>,
+    mark: Option<Mark>,
     k: u8,
     node: &Node,
 ) -> Result<(), Error>
     ensures gone { OnOk result (Goes (W.contents output.old.writer) output.old.text.items
-        (node_lines fault k node.now) (W.contents output.new.writer) output.new.text.items) }
+        (node_lines mark k node.now) (W.contents output.new.writer) output.new.text.items) }
     ensures prints { Prints output.old.faults output.new.faults result }
 {
-    put_node(&mut output.text, fault, k, node)?;
+    put_node(&mut output.text, mark, k, node)?;
     output.pass_on()
 }
 
 /// Prints nodes, of which the first has index `k`.
 fn print_nodes<W: Write>(
     output: &mut Output<W>,
-    fault: Option<Fault>,
+    mark: Option<Mark>,
     k: u8,
     nodes: &[Node],
 ) -> Result<(), Error>
     requires { k + length nodes.now ≤ 255 }
     ensures gone { OnOk result (Goes (W.contents output.old.writer) output.old.text.items
-        (each_from (node_lines fault) k nodes.now) (W.contents output.new.writer) output.new.text.items) }
+        (each_from (node_lines mark) k nodes.now) (W.contents output.new.writer) output.new.text.items) }
     ensures prints { Prints output.old.faults output.new.faults result }
 {
     match nodes {
         [] => Ok(()),
         [first, rest @ ..] => {
-            print_node(output, fault, k, first)?;
-            print_nodes(output, fault, k + 1, rest)
+            print_node(output, mark, k, first)?;
+            print_nodes(output, mark, k + 1, rest)
         }
     }
 }
@@ -231,59 +232,59 @@ fn print_nodes<W: Write>(
 fn print_all_cables<W: Write>(
     output: &mut Output<W>,
     image: &Image,
-    fault: Option<Fault>,
+    mark: Option<Mark>,
 ) -> Result<(), Error>
     ensures gone { OnOk result (Goes (W.contents output.old.writer) output.old.text.items
-        (each_from (cable_line fault) 0 image.now.cables)
+        (each_from (cable_line mark) 0 image.now.cables)
         (W.contents output.new.writer) output.new.text.items) }
     ensures prints { Prints output.old.faults output.new.faults result }
 {
-    print_cables(output, fault, 0, image.cables())
+    print_cables(output, mark, 0, image.cables())
 }
 
 /// Prints the routers of an image.
 fn print_all_routers<W: Write>(
     output: &mut Output<W>,
     image: &Image,
-    fault: Option<Fault>,
+    mark: Option<Mark>,
     to: Option<u16>,
 ) -> Result<(), Error>
     ensures gone { OnOk result (Goes (W.contents output.old.writer) output.old.text.items
-        (each_from (router_lines image.now fault to) 0 image.now.routers)
+        (each_from (router_lines image.now mark to) 0 image.now.routers)
         (W.contents output.new.writer) output.new.text.items) }
     ensures prints { Prints output.old.faults output.new.faults result }
 {
-    print_routers(output, image, fault, to, 0, image.routers())
+    print_routers(output, image, mark, to, 0, image.routers())
 }
 
 /// Prints the nodes of an image.
 fn print_all_nodes<W: Write>(
     output: &mut Output<W>,
     image: &Image,
-    fault: Option<Fault>,
+    mark: Option<Mark>,
 ) -> Result<(), Error>
     ensures gone { OnOk result (Goes (W.contents output.old.writer) output.old.text.items
-        (each_from (node_lines fault) 0 image.now.nodes)
+        (each_from (node_lines mark) 0 image.now.nodes)
         (W.contents output.new.writer) output.new.text.items) }
     ensures prints { Prints output.old.faults output.new.faults result }
 {
-    print_nodes(output, fault, 0, image.nodes())
+    print_nodes(output, mark, 0, image.nodes())
 }
 
 /// Prints the parts of an internet.
 fn print_parts<W: Write>(
     output: &mut Output<W>,
     image: &Image,
-    fault: Option<Fault>,
+    mark: Option<Mark>,
     to: Option<u16>,
 ) -> Result<(), Error>
     ensures gone { OnOk result (Goes (W.contents output.old.writer) output.old.text.items
-        (parts_text image.now fault to) (W.contents output.new.writer) output.new.text.items) }
+        (parts_text image.now mark to) (W.contents output.new.writer) output.new.text.items) }
     ensures prints { Prints output.old.faults output.new.faults result }
 {
-    print_all_cables(output, image, fault)?;
-    print_all_routers(output, image, fault, to)?;
-    print_all_nodes(output, image, fault)
+    print_all_cables(output, image, mark)?;
+    print_all_routers(output, image, mark, to)?;
+    print_all_nodes(output, image, mark)
 }
 
 /// Prints the arrow from a router for a network, if the router has a route.
@@ -344,12 +345,14 @@ fn print_all_arrows<W: Write>(
 
 /// Prints the drawing of an image in Graphviz' language: its cables, its routers with their ports,
 /// and its nodes, each numbered from 1, under the line of the verdict. Where the verdict is no, its
-/// place is red, and has the rule as the last line of its label. If a network is asked for by `to`,
+/// place is red, and has the rule as the last line of its label; where it is yes and the tables
+/// aren't settled, the router of the first row that may change is orange, and has the row as the last
+/// line of its label. If a network is asked for by `to`,
 /// an arrow leads from each router to the cable or to the next router to which that router sends a
 /// datagram for it, and `no route` is in the label of each router that has none.
 ///
-/// The verdict is that of the image's audit; of another one, a place that the image doesn't have is
-/// drawn nowhere. Text is written in large pieces; what is left of it at the end stays in the
+/// The verdict is that of the image's audit, and whether its tables are settled is what `settled`
+/// says; of others, a place that the image doesn't have is drawn nowhere. Text is written in large pieces; what is left of it at the end stays in the
 /// output.
 ///
 /// Errors: `Memory`; `WriteFault`, only if the writer failed. After an error, a part of the text may
@@ -358,15 +361,16 @@ pub fn print_drawing<W: Write>(
     output: &mut Output<W>,
     image: &Image,
     verdict: &Verdict,
+    settling: Settling,
     to: Option<u16>,
 ) -> Result<(), Error>
     ensures gone { OnOk result (Goes (W.contents output.old.writer) output.old.text.items
-        (drawing_text image.now verdict.now to)
+        (drawing_text image.now verdict.now settling to)
         (W.contents output.new.writer) output.new.text.items) }
     ensures prints { Prints output.old.faults output.new.faults result }
 {
     print_head(output, verdict, to)?;
-    print_parts(output, image, fault_of(verdict), to)?;
+    print_parts(output, image, mark_of(verdict, settling), to)?;
     print_all_arrows(output, image, to)?;
     print_text(output, b"}\n")
 }

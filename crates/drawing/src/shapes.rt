@@ -2,16 +2,16 @@
 
 ghost use Rattle.std.specs.Prelude.{◌≡◌, ◌++◌, ◌+◌, ◌<◌, ◌^◌, OnOk};
 ghost use Rattle.std.specs.List.{flat_map};
-ghost use Rattle.drawing.specs.Faults.{fault_at, is_cable, is_node, is_port, is_router};
+ghost use Rattle.drawing.specs.Marks.{mark_at, is_cable, is_node, is_port, is_router};
 ghost use Rattle.drawing.specs.Labels.{label_end, text_line};
 ghost use Rattle.drawing.specs.Shapes.{cable_line, cable_start, name_line, node_edge, node_lines};
 ghost use Rattle.drawing.specs.Shapes.{node_place, node_start, port_line, port_start, range_line};
 ghost use Rattle.drawing.specs.Shapes.{router_line, router_start};
 
-use crate::faults::{fault_at_cable, fault_at_node, fault_at_port, fault_at_router};
 use crate::labels::{put_end, put_line, put_number, put_text};
+use crate::marks::{Mark, mark_at_cable, mark_at_node, mark_at_port, mark_at_router};
 use crate::routes::put_router_route;
-use at_base::{Fault, Name};
+use at_base::Name;
 use std::alloc::AllocError;
 use table_image::{Cable, Image, Node, NodeName, Port};
 use text::{put_address, put_decimal};
@@ -50,26 +50,26 @@ fn put_zones(text: &mut Vec<u8>, zones: &[Name]) -> Result<(), AllocError>
 }
 
 /// Appends the end of a cable's line.
-fn put_cable_end(text: &mut Vec<u8>, fault: Option<Fault>, k: u8) -> Result<(), AllocError>
+fn put_cable_end(text: &mut Vec<u8>, mark: Option<Mark>, k: u8) -> Result<(), AllocError>
     ensures { OnOk result
-        (text.new.items ≡ text.old.items ++ label_end (fault_at (is_cable k) fault)) }
+        (text.new.items ≡ text.old.items ++ label_end (mark_at (is_cable k) mark)) }
 {
-    put_end(text, fault_at_cable(fault, k))
+    put_end(text, mark_at_cable(mark, k))
 }
 
 /// Appends the line of a cable.
 pub(crate) fn put_cable(
     text: &mut Vec<u8>,
-    fault: Option<Fault>,
+    mark: Option<Mark>,
     k: u8,
     cable: &Cable,
 ) -> Result<(), AllocError>
-    ensures { OnOk result (text.new.items ≡ text.old.items ++ cable_line fault k cable.now) }
+    ensures { OnOk result (text.new.items ≡ text.old.items ++ cable_line mark k cable.now) }
 {
     put_cable_start(text, k)?;
     put_range(text, cable.start, cable.end)?;
     put_zones(text, cable.zones.as_slice())?;
-    put_cable_end(text, fault, k)
+    put_cable_end(text, mark, k)
 }
 
 /// Appends the beginning of a router's line.
@@ -83,26 +83,26 @@ fn put_router_start(text: &mut Vec<u8>, r: u8) -> Result<(), AllocError>
 }
 
 /// Appends the end of a router's line.
-fn put_router_end(text: &mut Vec<u8>, fault: Option<Fault>, r: u8) -> Result<(), AllocError>
+fn put_router_end(text: &mut Vec<u8>, mark: Option<Mark>, r: u8) -> Result<(), AllocError>
     ensures { OnOk result
-        (text.new.items ≡ text.old.items ++ label_end (fault_at (is_router r) fault)) }
+        (text.new.items ≡ text.old.items ++ label_end (mark_at (is_router r) mark)) }
 {
-    put_end(text, fault_at_router(fault, r))
+    put_end(text, mark_at_router(mark, r))
 }
 
 /// Appends the line of a router.
 pub(crate) fn put_router(
     text: &mut Vec<u8>,
     image: &Image,
-    fault: Option<Fault>,
+    mark: Option<Mark>,
     to: Option<u16>,
     r: u8,
 ) -> Result<(), AllocError>
-    ensures { OnOk result (text.new.items ≡ text.old.items ++ router_line image.now fault to r) }
+    ensures { OnOk result (text.new.items ≡ text.old.items ++ router_line image.now mark to r) }
 {
     put_router_start(text, r)?;
     put_router_route(text, image, to, r)?;
-    put_router_end(text, fault, r)
+    put_router_end(text, mark, r)
 }
 
 /// Appends the beginning of a port's line.
@@ -117,28 +117,28 @@ fn put_port_start(text: &mut Vec<u8>, r: u8, port: &Port) -> Result<(), AllocErr
 }
 
 /// Appends the end of a port's line.
-fn put_port_end(text: &mut Vec<u8>, fault: Option<Fault>, r: u8, p: usize) -> Result<(), AllocError>
+fn put_port_end(text: &mut Vec<u8>, mark: Option<Mark>, r: u8, p: usize) -> Result<(), AllocError>
     requires { p + 1 < 2 ^ 64 }
     ensures { OnOk result
-        (text.new.items ≡ text.old.items ++ label_end (fault_at (is_port r p) fault)) }
+        (text.new.items ≡ text.old.items ++ label_end (mark_at (is_port r p) mark)) }
 {
-    put_end(text, fault_at_port(fault, r, p))
+    put_end(text, mark_at_port(mark, r, p))
 }
 
 /// Appends the line of a port.
 pub(crate) fn put_port(
     text: &mut Vec<u8>,
-    fault: Option<Fault>,
+    mark: Option<Mark>,
     r: u8,
     p: usize,
     port: &Port,
 ) -> Result<(), AllocError>
     requires { p + 1 < 2 ^ 64 }
-    ensures { OnOk result (text.new.items ≡ text.old.items ++ port_line fault r p port.now) }
+    ensures { OnOk result (text.new.items ≡ text.old.items ++ port_line mark r p port.now) }
 {
     put_port_start(text, r, port)?;
     put_address(text, port.address)?;
-    put_port_end(text, fault, r, p)
+    put_port_end(text, mark, r, p)
 }
 
 /// Appends the beginning of a node's line.
@@ -183,11 +183,11 @@ fn put_names(text: &mut Vec<u8>, names: &[NodeName]) -> Result<(), AllocError>
 }
 
 /// Appends the end of a node's line.
-fn put_node_end(text: &mut Vec<u8>, fault: Option<Fault>, k: u8) -> Result<(), AllocError>
+fn put_node_end(text: &mut Vec<u8>, mark: Option<Mark>, k: u8) -> Result<(), AllocError>
     ensures { OnOk result
-        (text.new.items ≡ text.old.items ++ label_end (fault_at (is_node k) fault)) }
+        (text.new.items ≡ text.old.items ++ label_end (mark_at (is_node k) mark)) }
 {
-    put_end(text, fault_at_node(fault, k))
+    put_end(text, mark_at_node(mark, k))
 }
 
 /// Appends the edge from a node to its cable.
@@ -204,15 +204,15 @@ fn put_node_edge(text: &mut Vec<u8>, k: u8, node: &Node) -> Result<(), AllocErro
 /// Appends the lines of a node.
 pub(crate) fn put_node(
     text: &mut Vec<u8>,
-    fault: Option<Fault>,
+    mark: Option<Mark>,
     k: u8,
     node: &Node,
 ) -> Result<(), AllocError>
-    ensures { OnOk result (text.new.items ≡ text.old.items ++ node_lines fault k node.now) }
+    ensures { OnOk result (text.new.items ≡ text.old.items ++ node_lines mark k node.now) }
 {
     put_node_start(text, k)?;
     put_node_place(text, node)?;
     put_names(text, node.names.as_slice())?;
-    put_node_end(text, fault, k)?;
+    put_node_end(text, mark, k)?;
     put_node_edge(text, k, node)
 }

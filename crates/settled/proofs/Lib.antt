@@ -6,5 +6,7 @@ pub mod Stays
 pub mod Hearing
 pub mod Exchange
 pub mod Moments
+pub mod Sent
+pub mod Offered
 pub mod Asked
 pub mod Examples

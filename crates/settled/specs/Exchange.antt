@@ -1,5 +1,5 @@
 -- Rows of an internet as routers change them by routing data. (Inside AppleTalk, the chapter on RTMP)
-use Rattle.std.specs.Prelude.{◌≡◌, ◌≢◌, ◌⊎◌, ℕ, suc, false, List, [], ◌∷◌, Some, length, map, slice_get}
+use Rattle.std.specs.Prelude.{◌≡◌, ◌≢◌, ◌⊎◌, ℕ, suc, false, List, [], ◌∷◌, Option, Some, None, length, map, slice_get}
 use Rattle.at_base.specs.Range.{Span}
 use Rattle.learning.specs.Heard.{routes_after}
 use Rattle.rtmp.specs.Data.{RoutingData}
@@ -53,6 +53,15 @@ pub record AreNeighbours (i : Internet) (r n s q : ℕ) (range : Span) : Type 0 
   pub cable_at : slice_get i.cables port.cable ≡ Some cable
   pub spans : range ≡ record { start = cable.start; end = cable.end }
 
+-- the rows after routing data was heard by port n, on a cable of this range: those after the packet, if one is sent
+abbrev pub rows_heard : ℕ → Span → Option RoutingData → List RouteRow → List RouteRow
+rows_heard n range None rows = rows
+rows_heard n range (Some packet) rows = routes_after Skipped range n packet rows
+
+-- each row that isn't direct is Good
+abbrev pub AreGood : List RouteRow → Type 0
+AreGood rows = (k : ℕ) (c : RouteRow) → slice_get rows k ≡ Some c → is_direct c ≡ false → c.state ≡ Good
+
 -- ---- exchanges
 
 -- the rows of each router's table at one moment, by the router's index
@@ -81,7 +90,7 @@ pub record IsHearing (i : Internet) (moments : List Tables) (r : ℕ) (before af
 
 -- A router ages its rows while all that aren't direct are Good.
 pub record IsAgeing (before after : List RouteRow) : Type 0 where
-  pub good : (k : ℕ) (c : RouteRow) → slice_get before k ≡ Some c → is_direct c ≡ false → c.state ≡ Good
+  pub good : AreGood before
   pub older : after ≡ aged before
 
 -- One router hears what another one sends, or ages its rows, and the others do nothing.

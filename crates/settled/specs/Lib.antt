@@ -1,4 +1,5 @@
 pub mod Offers
+pub mod Offered
 pub mod Settling
 pub mod Moved
 pub mod Exchange

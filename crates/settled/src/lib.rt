@@ -3,6 +3,8 @@
 #![tactic(auto)]
 
 mod laws;
+mod neighbours;
+mod offering;
 mod offers;
 mod settling;
 
@@ -10,4 +12,6 @@ pub use laws::{
     next_routers_offer, nobody_asks_for_zones, routing_data_keep_distances,
     the_examples_are_judged, what_moves_is_settled, what_moves_passes,
 };
+pub use neighbours::{Neighbour, age_good, hear_neighbour};
+pub use offering::{Offer, nearer_offer};
 pub use settling::{Settling, settled};

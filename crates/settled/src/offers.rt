@@ -13,7 +13,7 @@ fn same_range(a: &Row, b: &Row) -> bool
     a.start == b.start && a.end == b.end
 }
 
-fn is_on(router: &Router, cable: u8) -> bool
+pub(crate) fn is_on(router: &Router, cable: u8) -> bool
     ensures { result ≡ spec.is_on cable router.now }
 {
     router.ports.as_slice().iter().any(|p| p.cable == cable)
@@ -28,7 +28,7 @@ fn leaves_by(router: &Router, cable: u8, row: &Row) -> bool
     }
 }
 
-fn is_nearer_offer(cable: u8, row: &Row, router: &Router, offered: &Row) -> bool
+pub(crate) fn is_nearer_offer(cable: u8, row: &Row, router: &Router, offered: &Row) -> bool
     ensures { result ≡ spec.is_nearer_offer cable row.now router.now offered.now }
 {
     same_range(offered, row)

@@ -4,6 +4,7 @@ use at_base::Error;
 use audit::audit;
 use case_words::{Answer, Stop, put_line};
 use drawing::print_drawing;
+use settled::{Settling, nearer_offer, settled};
 use std::alloc::{AllocError, Global};
 use table_image::{Image, write};
 use tables_text::print_tables;
@@ -31,9 +32,28 @@ fn shown(alloc: Global, image: &Image) -> Result<Vec<u8>, Stop> {
 /// Appends the drawing of an image, with its verdict and the ways to a network, if one is asked for.
 pub(crate) fn draw(alloc: Global, image: &Image, to: Option<u16>, text: &mut String) -> Answer {
     let mut output = Output::new(alloc, Vec::with_capacity(alloc, ROOM)?);
-    print_drawing(&mut output, image, &audit(image), to)?;
+    print_drawing(&mut output, image, &audit(image), settled(image), to)?;
     output.flush()?;
     put_ascii(text, output.writer.as_slice())?;
+    Ok(())
+}
+
+/// Appends whether the tables of an image are settled, and who offers the range of the first row that
+/// may change, nearer.
+fn put_settling(image: &Image, text: &mut String) -> Answer {
+    let settling = settled(image);
+    writeln!(text, "{settling}")?;
+    let Settling::No(place) = settling else {
+        return Ok(());
+    };
+    match nearer_offer(image, place) {
+        Some(offer) => writeln!(
+            text,
+            "router {} offers it at {} on cable {} by row {}",
+            offer.router, offer.distance, offer.cable, offer.row
+        )?,
+        None => writeln!(text, "nobody offers it nearer")?,
+    }
     Ok(())
 }
 
@@ -58,6 +78,7 @@ pub(crate) fn answer(alloc: Global, image: &Image, question: &str, text: &mut St
             let line = audit(image).line(alloc)?;
             writeln!(text, "{line}")?;
         }
+        "settled" => put_settling(image, text)?,
         "image" => put_line(text, write(alloc, image)?.as_slice())?,
         "show" => put_ascii(text, shown(alloc, image)?.as_slice())?,
         _ => {

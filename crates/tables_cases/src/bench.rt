@@ -110,7 +110,7 @@ impl Bench for Tables {
             "text" => self.add_text(words),
             "bytes" => self.add_bytes(words),
             "draw" => self.draw(words, text),
-            "make" | "image" | "show" | "again" => {
+            "make" | "image" | "show" | "settled" | "again" => {
                 answers::answer(self.alloc, &self.image(words)?, first, text)
             }
             _ => Err(Stop::Unclear),

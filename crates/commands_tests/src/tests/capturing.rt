@@ -1,112 +1,114 @@
 //! Captures: reads and writes that fail, and what is written before them.
 
 use super::EMPTY;
-use super::fakes::{Frail, Pieces};
-use super::plays::SMALL;
+use super::fakes::{Frail, NEVER, Pieces, Trouble};
+use super::making::SMALL;
 use at_base::Error;
 use commands::{capture_play, capture_run, into_answer};
 use frozen_trace::Refusals;
 use playing::Silent;
 use std::alloc::Global;
+use std::io::ErrorKind;
 use text::Output;
 
-/// A call at which no writer here fails.
-const NEVER: u32 = 99;
+/// What is captured.
+#[derive(Clone, Copy)]
+enum Captured {
+    /// A play of the small internet.
+    Play,
+    /// A trace of a script over the empty internet.
+    Trace,
+}
 
 /// What came of a call, and how often its writers were called: that of the lines, and that of the
 /// capture.
-#[derive(Clone, Copy, Debug, PartialEq, Eq)]
-struct Found {
-    answer: Result<bool, Error>,
-    lines: u32,
-    captured: u32,
+type Found = (Result<bool, Error>, u32, u32);
+
+/// Captures a play or a trace, where a read of the text, a write of the lines or one of the capture
+/// may fail.
+fn capture(alloc: Global, captured: Captured, fails_at: (u32, u32, u32)) -> Found {
+    let trouble = Trouble::FailsAt(fails_at.0, ErrorKind::Other);
+    let mut lines = Output::new(alloc, Frail::new(fails_at.1));
+    let mut capture = Output::new(alloc, Frail::new(fails_at.2));
+    let answer = match captured {
+        Captured::Play => into_answer(capture_play(
+            alloc,
+            &mut Pieces::new(SMALL, 40, trouble),
+            &mut lines,
+            &mut Output::new(alloc, Frail::new(NEVER)),
+            &mut capture,
+            &mut Silent,
+            None,
+        )),
+        Captured::Trace => into_answer(capture_run(
+            alloc,
+            &mut Pieces::new(EMPTY, 3, Trouble::Nowhere),
+            &mut Pieces::new(b"drain 5\n", 7, trouble),
+            &mut lines,
+            &mut capture,
+            &mut Refusals::new(alloc),
+        )),
+    };
+    (answer, lines.writer.calls, capture.writer.calls)
 }
 
-/// What is found where the answer is this one.
-fn came_to(answer: Result<bool, Error>, lines: u32, captured: u32) -> Found {
-    Found {
-        answer,
-        lines,
-        captured,
-    }
-}
+/// What is captured, which call of the reader, of the lines and of the capture fails, and what comes
+/// of it: a play writes its capture first, and a trace its lines.
+const CAPTURED: [(Captured, (u32, u32, u32), Found); 10] = [
+    (Captured::Play, (NEVER, NEVER, NEVER), (Ok(true), 3, 2)),
+    (
+        Captured::Play,
+        (2, NEVER, NEVER),
+        (Err(Error::ReadFault), 0, 0),
+    ),
+    (
+        Captured::Play,
+        (NEVER, NEVER, 1),
+        (Err(Error::WriteFault), 0, 1),
+    ),
+    (
+        Captured::Play,
+        (NEVER, NEVER, 2),
+        (Err(Error::WriteFault), 0, 2),
+    ),
+    (
+        Captured::Play,
+        (NEVER, 1, NEVER),
+        (Err(Error::WriteFault), 1, 2),
+    ),
+    (Captured::Trace, (NEVER, NEVER, NEVER), (Ok(true), 2, 2)),
+    (
+        Captured::Trace,
+        (2, NEVER, NEVER),
+        (Err(Error::ReadFault), 0, 0),
+    ),
+    (
+        Captured::Trace,
+        (NEVER, NEVER, 1),
+        (Err(Error::WriteFault), 2, 1),
+    ),
+    (
+        Captured::Trace,
+        (NEVER, NEVER, 2),
+        (Err(Error::WriteFault), 2, 2),
+    ),
+    (
+        Captured::Trace,
+        (NEVER, 1, NEVER),
+        (Err(Error::WriteFault), 1, 0),
+    ),
+];
 
-/// An output with a writer that fails at a call.
-fn frail(alloc: Global, fails_at: u32) -> Output<Frail> {
-    Output::new(alloc, Frail { calls: 0, fails_at })
-}
-
-/// Plays the small internet, where a read, a write of the lines or one of the capture may fail.
-fn play(alloc: Global, read: Option<u32>, lines_fail_at: u32, capture_fails_at: u32) -> Found {
-    let mut text = Pieces::new(SMALL, 40);
-    text.fails_at = read;
-    let mut lines = frail(alloc, lines_fail_at);
-    let mut image = frail(alloc, NEVER);
-    let mut capture = frail(alloc, capture_fails_at);
-    let answer = into_answer(capture_play(
-        alloc,
-        &mut text,
-        &mut lines,
-        &mut image,
-        &mut capture,
-        &mut Silent,
-        None,
-    ));
-    came_to(answer, lines.writer.calls, capture.writer.calls)
-}
-
-/// Traces a script over the empty internet, where a read of the script, a write of the lines or one
-/// of the capture may fail.
-fn trace(alloc: Global, read: Option<u32>, lines_fail_at: u32, capture_fails_at: u32) -> Found {
-    let mut script = Pieces::new(b"drain 5\n", 7);
-    script.fails_at = read;
-    let mut image = Pieces::new(EMPTY, 3);
-    let mut lines = frail(alloc, lines_fail_at);
-    let mut capture = frail(alloc, capture_fails_at);
-    let traced = capture_run(
-        alloc,
-        &mut image,
-        &mut script,
-        &mut lines,
-        &mut capture,
-        &mut Refusals::new(alloc),
-    );
-    let answer = into_answer(traced);
-    came_to(answer, lines.writer.calls, capture.writer.calls)
-}
-
-#[test]
-fn a_play_writes_its_capture_first(rt: HostRuntime) {
-    let alloc = rt.alloc();
-    for (read, lines, capture, wanted) in [
-        (None, NEVER, NEVER, came_to(Ok(true), 3, 2)),
-        (Some(2), NEVER, NEVER, came_to(Err(Error::ReadFault), 0, 0)),
-        (None, NEVER, 1, came_to(Err(Error::WriteFault), 0, 1)),
-        (None, NEVER, 2, came_to(Err(Error::WriteFault), 0, 2)),
-        (None, 1, NEVER, came_to(Err(Error::WriteFault), 1, 2)),
-    ] {
-        let mut given = play(alloc, read, lines, capture);
-        if given.answer == Err(Error::Memory) {
-            given = play(alloc, read, lines, capture);
+/// Whether lines and captures are written in their order, and none after a failure.
+pub(super) fn captures_have_their_place(alloc: Global) -> Result<bool, Error> {
+    for (captured, fails_at, wanted) in CAPTURED {
+        let found = capture(alloc, captured, fails_at);
+        if found.0 == Err(Error::Memory) {
+            return Err(Error::Memory);
         }
-        assert_eq!(rt; given, wanted);
-    }
-}
-
-#[test]
-fn a_trace_writes_its_lines_first(rt: HostRuntime) {
-    let alloc = rt.alloc();
-    for (read, lines, capture, wanted) in [
-        (None, NEVER, NEVER, came_to(Ok(true), 2, 2)),
-        (Some(2), NEVER, NEVER, came_to(Err(Error::ReadFault), 0, 0)),
-        (None, NEVER, 1, came_to(Err(Error::WriteFault), 2, 1)),
-        (None, NEVER, 2, came_to(Err(Error::WriteFault), 2, 2)),
-        (None, 1, NEVER, came_to(Err(Error::WriteFault), 1, 0)),
-    ] {
-        let mut given = trace(alloc, read, lines, capture);
-        if given.answer == Err(Error::Memory) {
-            given = trace(alloc, read, lines, capture);
+        if found != wanted {
+            return Ok(false);
         }
-        assert_eq!(rt; given, wanted);
     }
+    Ok(true)
 }

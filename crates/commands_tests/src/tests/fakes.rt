@@ -3,27 +3,38 @@
 use std::io;
 use std::io::{ErrorKind, Read, Write};
 
-/// A reader that returns its bytes in pieces. One of its reads may fail, with this kind of error,
-/// and one may be interrupted.
+/// A call at which no reader or writer here fails.
+pub const NEVER: u32 = 99;
+
+/// Which reads of a reader don't succeed.
+#[derive(Clone, Copy)]
+pub enum Trouble {
+    /// None of them.
+    Nowhere,
+    /// This one fails, with an error of this kind.
+    FailsAt(u32, ErrorKind),
+    /// This one is interrupted.
+    InterruptedAt(u32),
+    /// Each is interrupted.
+    Restless,
+}
+
+/// A reader that returns its bytes in pieces.
 #[derive(Clone, Copy)]
 pub struct Pieces<'a> {
     pub left: &'a [u8],
-    pub piece: usize,
+    piece: usize,
     pub reads: u32,
-    pub fails_at: Option<u32>,
-    pub kind: ErrorKind,
-    pub interrupted_at: Option<u32>,
+    trouble: Trouble,
 }
 
 impl<'a> Pieces<'a> {
-    pub fn new(bytes: &'a [u8], piece: usize) -> Pieces<'a> {
+    pub fn new(bytes: &'a [u8], piece: usize, trouble: Trouble) -> Pieces<'a> {
         Pieces {
             left: bytes,
             piece,
             reads: 0,
-            fails_at: None,
-            kind: ErrorKind::Other,
-            interrupted_at: None,
+            trouble,
         }
     }
 }
@@ -31,11 +42,15 @@ impl<'a> Pieces<'a> {
 impl Read for Pieces<'_> {
     fn read(&mut self, buffer: &mut [u8]) -> io::Result<usize> {
         self.reads = self.reads.saturating_add(1);
-        if Some(self.reads) == self.fails_at {
-            return Err(io::Error::from(self.kind));
-        }
-        if Some(self.reads) == self.interrupted_at {
-            return Err(io::Error::from(ErrorKind::Interrupted));
+        match self.trouble {
+            Trouble::FailsAt(read, kind) if read == self.reads => {
+                return Err(io::Error::from(kind));
+            }
+            Trouble::InterruptedAt(read) if read == self.reads => {
+                return Err(io::Error::from(ErrorKind::Interrupted));
+            }
+            Trouble::Restless => return Err(io::Error::from(ErrorKind::Interrupted)),
+            _ => {}
         }
         let left = self.left;
         let count = self.piece.min(left.len()).min(buffer.len());
@@ -90,27 +105,41 @@ impl Read for Endless<'_> {
     }
 }
 
-/// A reader that is interrupted at each read.
-#[derive(Clone, Copy)]
-pub struct Restless {
-    pub reads: u32,
-}
-
-impl Read for Restless {
-    fn read(&mut self, _buffer: &mut [u8]) -> io::Result<usize> {
-        self.reads = self.reads.saturating_add(1);
-        Err(io::Error::from(ErrorKind::Interrupted))
-    }
-}
-
-/// A writer that accepts all bytes, but one of its calls fails.
+/// A writer that has room for some bytes and buffers them until it is flushed; one of its calls may
+/// fail. It keeps the first bytes, and counts the others.
 #[derive(Clone, Copy)]
 pub struct Frail {
     pub calls: u32,
-    pub fails_at: u32,
+    fails_at: u32,
+    room: usize,
+    kept: [u8; 400],
+    len: usize,
+    pub flushed: usize,
 }
 
 impl Frail {
+    /// A writer with room for all bytes, whose call of this number fails.
+    pub fn new(fails_at: u32) -> Frail {
+        Frail::with_room(usize::MAX, fails_at)
+    }
+
+    /// A writer with room for so many bytes, whose call of this number fails.
+    pub fn with_room(room: usize, fails_at: u32) -> Frail {
+        Frail {
+            calls: 0,
+            fails_at,
+            room,
+            kept: [0; 400],
+            len: 0,
+            flushed: 0,
+        }
+    }
+
+    /// Whether this text was written and flushed, and nothing else was written.
+    pub fn has(&self, text: &[u8]) -> bool {
+        self.len == self.flushed && self.kept.as_slice().get(..self.len) == Some(text)
+    }
+
     fn call(&mut self) -> io::Result<()> {
         self.calls = self.calls.saturating_add(1);
         if self.calls == self.fails_at {
@@ -123,53 +152,18 @@ impl Frail {
 impl Write for Frail {
     fn write(&mut self, buffer: &[u8]) -> io::Result<usize> {
         self.call()?;
-        Ok(buffer.len())
-    }
-
-    fn flush(&mut self) -> io::Result<()> {
-        self.call()
-    }
-}
-
-/// A writer that buffers its bytes until it is flushed.
-#[derive(Drop)]
-pub struct Holding {
-    held: [u8; 64],
-    len: usize,
-    flushed: usize,
-}
-
-impl Holding {
-    pub fn new() -> Holding {
-        Holding {
-            held: [0; 64],
-            len: 0,
-            flushed: 0,
-        }
-    }
-
-    /// The bytes that were flushed.
-    pub fn flushed(&self) -> &[u8] {
-        match self.held.as_slice().get(..self.flushed) {
-            Some(bytes) => bytes,
-            None => b"".as_slice(),
-        }
-    }
-}
-
-impl Write for Holding {
-    fn write(&mut self, buffer: &[u8]) -> io::Result<usize> {
-        for byte in buffer {
-            match self.held.as_mut_slice().get_mut(self.len) {
-                Some(place) => *place = *byte,
-                None => return Err(io::Error::from(ErrorKind::StorageFull)),
+        let count = buffer.len().min(self.room.saturating_sub(self.len));
+        for byte in &buffer[..count] {
+            if let Some(place) = self.kept.as_mut_slice().get_mut(self.len) {
+                *place = *byte;
             }
             self.len = self.len.saturating_add(1);
         }
-        Ok(buffer.len())
+        Ok(count)
     }
 
     fn flush(&mut self) -> io::Result<()> {
+        self.call()?;
         self.flushed = self.len;
         Ok(())
     }

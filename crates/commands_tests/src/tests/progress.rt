@@ -1,6 +1,7 @@
 //! The reports of each tick of a play.
 
-use super::plays::{EARLY, SMALL};
+use super::making::{EARLY, SMALL};
+use at_base::Error;
 use playing::{Progress, play, read_plan};
 use rtmp::Routes;
 use std::alloc::Global;
@@ -22,28 +23,23 @@ impl Progress for Counting {
     }
 }
 
-/// The number of ticks in the play of a text, unless an allocation fails.
-fn ticks_of(alloc: Global, text: &[u8]) -> Option<u32> {
+/// Whether so many ticks are told in the play of a text.
+fn is_told(alloc: Global, text: &[u8], ticks: u32) -> Result<bool, Error> {
+    let plan = match read_plan(alloc, text) {
+        Ok(plan) => plan,
+        Err(refused) => return Err(refused.error),
+    };
     let mut counting = Counting {
         ticks: 0,
         agrees: true,
     };
-    let plan = read_plan(alloc, text).ok()?;
-    let played = play(alloc, plan, &mut counting, None);
-    if played.is_ok() && counting.agrees {
-        Some(counting.ticks)
-    } else {
-        None
+    match play(alloc, plan, &mut counting, None) {
+        Ok(_) => Ok(counting.agrees && counting.ticks == ticks),
+        Err(error) => Err(error),
     }
 }
 
-#[test]
-fn each_tick_is_told(rt: HostRuntime) {
-    for (text, want) in [(SMALL, 30), (EARLY, 1)] {
-        let ticks = match ticks_of(rt.alloc(), text) {
-            None => ticks_of(rt.alloc(), text),
-            ticks => ticks,
-        };
-        assert_eq!(rt; ticks, Some(want));
-    }
+/// Whether each tick is told, of a play of 30 and of one of a single tick.
+pub(super) fn each_tick_is_told(alloc: Global) -> Result<bool, Error> {
+    Ok(is_told(alloc, SMALL, 30)? && is_told(alloc, EARLY, 1)?)
 }

@@ -1,9 +1,8 @@
-//! The example of the README of `audit`, and its laws.
+//! The example of the README of `audit`.
 
-use super::three_cables::{IMAGE, far_row};
+use super::three_cables::IMAGE;
 use audit::{Error, audit_bytes};
 use std::alloc::Global;
-use std::test::*;
 
 /// The verdict line of the image that the bytes are, or why they are none.
 fn report(alloc: Global, bytes: &[u8]) -> Result<String, Error> {
@@ -17,34 +16,14 @@ fn report(alloc: Global, bytes: &[u8]) -> Result<String, Error> {
     }
 }
 
-#[test]
-fn images_are_reported(rt: HostRuntime) -> Result<(), Fail> {
-    for (bytes, want) in [
-        (
-            IMAGE.as_slice(),
-            "yes: 3 cables, 2 routers, 2 nodes, 6 rows, greatest distance 1",
-        ),
-        (far_row().as_slice(), "no: C5 router 1 row 3"),
-        (b"ATIM".as_slice(), "no image: Cut at byte 4"),
-    ] {
-        let line = match report(rt.alloc(), bytes) {
-            Err(Error::Memory) => report(rt.alloc(), bytes)?,
-            answer => answer?,
-        };
-        assert_eq!(rt; line.as_str(), want);
-    }
-    Ok(())
-}
-
-#[test]
-fn laws_of_the_audit_are_called() {
-    audit::one_walk_home();
-    audit::each_step();
-    audit::distances_fit();
-    audit::unlisted_is_nowhere();
-    audit::seats_are_unique();
-    audit::nodes_are_served();
-    audit::the_example_passes();
-    audit::loops_have_no_walk();
-    audit::words_exclude();
+/// Whether an image that passes, one that breaks a rule and bytes that are none are told apart.
+pub(super) fn images_are_reported(alloc: Global) -> Result<bool, Error> {
+    // With distance 15 in the first router's row for 30-39.
+    let mut far = IMAGE;
+    far[86] = 15;
+    let yes = "yes: 3 cables, 2 routers, 2 nodes, 6 rows, greatest distance 1";
+    let passes = report(alloc, &IMAGE)?.as_str() == yes;
+    let is_far = report(alloc, &far)?.as_str() == "no: C5 router 1 row 3";
+    let is_cut = report(alloc, b"ATIM")?.as_str() == "no image: Cut at byte 4";
+    Ok(passes && is_far && is_cut)
 }

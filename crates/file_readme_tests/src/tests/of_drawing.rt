@@ -4,9 +4,9 @@ use at_base::Error;
 use audit::audit;
 use drawing::print_drawing;
 use image_feed::read;
+use settled::settled;
 use std::alloc::Global;
 use std::io::Write;
-use std::test::*;
 use text::Output;
 
 /// Writes the drawing of an image, with the way of datagrams to a network if there is one.
@@ -18,7 +18,7 @@ fn draw<W: Write>(
 ) -> Result<(), Error> {
     let image = read(alloc, image)?;
     let verdict = audit(&image);
-    print_drawing(output, &image, &verdict, to)?;
+    print_drawing(output, &image, &verdict, settled(&image), to)?;
     output.flush()
 }
 
@@ -99,21 +99,16 @@ const EMPTY: &[u8] = br#"digraph internet {
 /// Whether this is the drawing of the image.
 fn is_drawn(alloc: Global, image: &[u8], to: Option<u16>, text: &[u8]) -> Result<bool, Error> {
     let mut output = Output::new(alloc, Vec::with_capacity(alloc, 4000)?);
-    draw(alloc, image, to, &mut output)?;
-    Ok(output.writer.as_slice() == text)
+    match draw(alloc, image, to, &mut output) {
+        Ok(()) => Ok(output.writer.as_slice() == text),
+        Err(error) => Err(error),
+    }
 }
 
-#[test]
-fn images_are_drawn(rt: HostRuntime) {
-    let cases = [
-        (LOOPED.as_slice(), Some(30), DRAWN),
-        (b"ATIM\x01\0\0\0".as_slice(), None, EMPTY),
-    ];
-    for (image, to, text) in cases {
-        let found = match is_drawn(rt.alloc(), image, to, text) {
-            Err(Error::Memory) => is_drawn(rt.alloc(), image, to, text),
-            answer => answer,
-        };
-        assert_eq!(rt; found, Ok(true));
-    }
+/// Whether an image with ways that loop is drawn, and one of nothing.
+pub(super) fn images_are_drawn(alloc: Global) -> Result<bool, Error> {
+    Ok(
+        is_drawn(alloc, &LOOPED, Some(30), DRAWN)?
+            && is_drawn(alloc, b"ATIM\x01\0\0\0", None, EMPTY)?,
+    )
 }

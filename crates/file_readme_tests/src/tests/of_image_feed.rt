@@ -4,7 +4,6 @@ use super::three_cables::IMAGE;
 use at_base::{Cause, Error};
 use image_feed::Feed;
 use std::alloc::Global;
-use std::test::*;
 use table_image::{Image, write};
 
 /// The image that two pieces are, one after the other.
@@ -15,22 +14,19 @@ fn image_of(alloc: Global, first: &[u8], second: &[u8]) -> Result<Image, Error> 
     feed.finish()
 }
 
-/// Whether two pieces are the example, and the first of them alone is cut.
-fn is_fed(alloc: Global) -> Result<bool, Error> {
-    let image = image_of(alloc, &IMAGE[..100], &IMAGE[100..])?;
-    let bytes = write(alloc, &image)?;
-    match image_of(alloc, &IMAGE[..100], &[]) {
-        Err(Error::BadImage(100, Cause::Cut)) => Ok(bytes.as_slice() == IMAGE.as_slice()),
-        Err(Error::Memory) => Err(Error::Memory),
-        _ => Ok(false),
-    }
-}
+/// Does nothing, but only compiles for a type whose values may be sent to another thread.
+fn is_send<T: Send>(_value: &T) {}
 
-#[test]
-fn the_readme_feeds_an_image(rt: HostRuntime) {
-    let found = match is_fed(rt.alloc()) {
-        Err(Error::Memory) => is_fed(rt.alloc()),
-        answer => answer,
-    };
-    assert_eq!(rt; found, Ok(true));
+/// Whether two pieces are the example, and the first of them alone is cut.
+pub(super) fn an_image_is_fed(alloc: Global) -> Result<bool, Error> {
+    match image_of(alloc, &IMAGE[..100], &[]).err() {
+        Some(Error::BadImage(100, Cause::Cut)) => {}
+        Some(Error::Memory) => return Err(Error::Memory),
+        _ => return Ok(false),
+    }
+    let image = image_of(alloc, &IMAGE[..100], &IMAGE[100..])?;
+    is_send(&image);
+    let bytes = write(alloc, &image);
+    drop(image);
+    Ok(bytes?.as_slice() == IMAGE.as_slice())
 }

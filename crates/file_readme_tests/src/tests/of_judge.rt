@@ -1,48 +1,54 @@
 //! Which bytes a text in TOML may begin with.
 
 use file_entries::{Judge, may_begin_text};
-use std::test::*;
+use std::alloc::Global;
 
-#[test]
-fn bytes_are_judged_by_their_kind(rt: HostRuntime) -> Result<(), Fail> {
-    let good: [&[u8]; 6] = [
-        b"",
-        b"\t\r\n ~",
-        "é€😀\u{80}\u{7FF}\u{800}\u{FFFF}\u{10000}\u{10FFFF}".as_bytes(),
-        b"\xE2\x82",
-        b"\xED\x9F\xBF\xEE\x80\x80",
-        b"\xF4\x8F\xBF\xBF",
-    ];
-    for bytes in good {
-        assert!(rt; may_begin_text(bytes), "in {bytes:?}");
-    }
-    let bad: [&[u8]; 12] = [
-        b"\x00",
-        b"a\x0B",
-        b"\x1F",
-        b"\x7F",
-        b"\x80",
-        b"\xC0\x80",
-        b"\xC1",
-        b"\xE0\x9F",
-        b"\xED\xA0",
-        b"\xF0\x8F",
-        b"\xF4\x90",
-        b"\xF5",
-    ];
-    for bytes in bad {
-        assert!(rt; !may_begin_text(bytes), "in {bytes:?}");
-    }
-    Ok(())
-}
+/// Characters of each length, the first and the last ones among them.
+const CHARACTERS: &str = "é€😀\u{80}\u{7FF}\u{800}\u{FFFF}\u{10000}\u{10FFFF}";
 
-#[test]
-fn a_text_is_judged_piece_by_piece(rt: HostRuntime) {
+/// Bytes, and whether a text may begin with them.
+const BYTES: [(&[u8], bool); 17] = [
+    (b"", true),
+    (b"\t\r\n ~", true),
+    (b"\xE2\x82", true),
+    (b"\xED\x9F\xBF\xEE\x80\x80", true),
+    (b"\xF4\x8F\xBF\xBF", true),
+    (b"\x00", false),
+    (b"a\x0B", false),
+    (b"\x1F", false),
+    (b"\x7F", false),
+    (b"\x80", false),
+    (b"\xC0\x80", false),
+    (b"\xC1", false),
+    (b"\xE0\x9F", false),
+    (b"\xED\xA0", false),
+    (b"\xF0\x8F", false),
+    (b"\xF4\x90", false),
+    (b"\xF5", false),
+];
+
+/// The pieces of a text, and what the judge says of each.
+const PIECES: [(&[u8], bool); 4] = [
+    (b"ticks = \"\xE2", true),
+    (b"\x82", true),
+    (b"\"", false),
+    (b"more", false),
+];
+
+/// Whether bytes are judged by their kind, and a text piece by piece.
+pub(super) fn bytes_are_judged() -> bool {
+    for (bytes, want) in BYTES {
+        if may_begin_text(bytes) != want {
+            return false;
+        }
+    }
     let mut judge = Judge::new();
-    assert!(rt; judge.take(b"ticks = \"\xE2"));
-    assert!(rt; judge.take(b"\x82"));
-    assert!(rt; !judge.take(b"\""));
-    assert!(rt; !judge.take(b"more"));
+    for (piece, want) in PIECES {
+        if judge.take(piece) != want {
+            return false;
+        }
+    }
+    may_begin_text(CHARACTERS.as_bytes())
 }
 
 /// Texts that TOML takes, which the judge must let through.
@@ -53,20 +59,24 @@ const TAKEN: [&str; 4] = [
     "",
 ];
 
-#[test]
-fn what_toml_takes_is_let_through(rt: HostRuntime) {
+/// Whether the judge lets a text through, if TOML takes it.
+fn is_let_through(alloc: Global, text: &[u8]) -> bool {
+    toml::table_from_slice(alloc, text).is_err() || may_begin_text(text)
+}
+
+/// Whether what TOML takes is let through: the texts above, and each control byte in a remark and in
+/// a quoted text.
+pub(super) fn what_toml_takes_is_let_through(alloc: Global) -> bool {
     for text in TAKEN {
-        let is_taken = toml::table_from_str(rt.alloc(), text).is_ok();
-        assert!(rt; !is_taken || may_begin_text(text.as_bytes()), "in {text:?}");
+        if !is_let_through(alloc, text.as_bytes()) {
+            return false;
+        }
     }
     for control in 0..32u8 {
-        let comment = [b'#', control];
-        if toml::table_from_slice(rt.alloc(), &comment).is_ok() {
-            assert!(rt; may_begin_text(&comment), "at {control}");
-        }
         let quoted = [b'a', b'=', b'"', control, b'"'];
-        if toml::table_from_slice(rt.alloc(), &quoted).is_ok() {
-            assert!(rt; may_begin_text(&quoted), "at {control}");
+        if !is_let_through(alloc, &[b'#', control]) || !is_let_through(alloc, &quoted) {
+            return false;
         }
     }
+    true
 }

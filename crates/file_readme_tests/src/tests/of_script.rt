@@ -1,9 +1,8 @@
-//! The examples of the README of `script`, and its law.
+//! The examples of the README of `script`.
 
 use at_base::Error;
 use script::{ScriptFeed, Step, read};
 use std::alloc::Global;
-use std::test::*;
 
 /// How many frames the drains of a script take at most.
 fn most_drained(alloc: Global, text: &[u8]) -> Result<u64, Error> {
@@ -17,17 +16,6 @@ fn most_drained(alloc: Global, text: &[u8]) -> Result<u64, Error> {
     Ok(most)
 }
 
-#[test]
-fn two_drains_take_at_most_12_frames(rt: HostRuntime) -> Result<(), Fail> {
-    let text = b"# two drains\ndrain 10\ntake 0 10.1\ndrain 2\n";
-    let most = match most_drained(rt.alloc(), text) {
-        Err(Error::Memory) => most_drained(rt.alloc(), text)?,
-        answer => answer?,
-    };
-    assert_eq!(rt; most, 12);
-    Ok(())
-}
-
 /// The steps of a script that comes in two pieces, cut anywhere.
 fn steps_of(alloc: Global, first: &[u8], second: &[u8]) -> Result<Vec<Step>, Error> {
     let mut feed = ScriptFeed::new(alloc);
@@ -36,82 +24,71 @@ fn steps_of(alloc: Global, first: &[u8], second: &[u8]) -> Result<Vec<Step>, Err
     feed.finish()
 }
 
-/// The same, where memory may be refused once.
-fn steps_at_last(alloc: Global, first: &[u8], second: &[u8]) -> Result<Vec<Step>, Error> {
-    match steps_of(alloc, first, second) {
-        Err(Error::Memory) => steps_of(alloc, first, second),
-        answer => answer,
-    }
-}
+/// A script in which two drains have a taking between them.
+const DRAINS: &[u8] = b"# two drains\ndrain 10\n\ntake 0 10.1\n#\ndrain 2";
 
-/// Whether the steps are those of the script below: two drains with a taking between them.
-fn are_three(steps: &[Step]) -> bool {
-    match steps {
-        [Step::Drain(10), Step::Event(_), Step::Drain(2)] => true,
-        _ => false,
-    }
-}
-
-#[test]
-fn a_script_may_be_cut_anywhere(rt: HostRuntime) -> Result<(), Fail> {
-    let text = b"# two drains\ndrain 10\n\ntake 0 10.1\n#\ndrain 2";
-    for place in 0..=text.len() {
-        let steps = steps_at_last(rt.alloc(), &text[..place], &text[place..])?;
-        assert!(rt; are_three(steps.as_slice()), "cut at {place}");
-    }
-    Ok(())
-}
-
-/// The error of two pieces, where memory may be refused once.
-fn refusal_of(alloc: Global, first: &[u8], second: &[u8]) -> Option<Error> {
-    match steps_at_last(alloc, first, second) {
-        Ok(_) => None,
-        Err(error) => Some(error),
-    }
-}
-
-#[test]
-fn a_bad_line_is_refused_wherever_it_is_cut(rt: HostRuntime) -> Result<(), Fail> {
-    let texts: [&[u8]; 4] = [
-        b"drain 1\n# a remark\ndrain x\ndrain 2\n",
-        b"drain 1\n# a remark\nd",
-        b"\n\nrequest 10.7 - 1 =:=",
-        b"\n\nsend\n",
-    ];
-    for text in texts {
-        for place in 0..=text.len() {
-            let error = refusal_of(rt.alloc(), &text[..place], &text[place..]);
-            assert_eq!(rt; error, Some(Error::BadScript(3)), "cut at {place}");
+/// Whether two drains take at most 12 frames, and a script is the same wherever it is cut.
+pub(super) fn a_script_may_be_cut_anywhere(alloc: Global) -> Result<bool, Error> {
+    for place in 0..=DRAINS.len() {
+        let are_three = matches!(
+            steps_of(alloc, &DRAINS[..place], &DRAINS[place..])?.as_slice(),
+            [Step::Drain(10), Step::Event(_), Step::Drain(2)]
+        );
+        if !are_three {
+            return Ok(false);
         }
     }
-    Ok(())
+    Ok(most_drained(alloc, b"# two drains\ndrain 10\ntake 0 10.1\ndrain 2\n")? == 12)
 }
 
-/// What a feed of one piece says, before its end is known.
-fn fed(alloc: Global, piece: &[u8]) -> Result<(), Error> {
-    let mut feed = ScriptFeed::new(alloc);
-    match feed.feed(piece) {
-        Err(Error::Memory) => {}
-        answer => return answer,
+/// Texts whose third line is bad.
+const BAD_THIRD_LINES: [&[u8]; 4] = [
+    b"drain 1\n# a remark\ndrain x\ndrain 2\n",
+    b"drain 1\n# a remark\nd",
+    b"\n\nrequest 10.7 - 1 =:=",
+    b"\n\nsend\n",
+];
+
+/// Whether a bad line is refused wherever the text is cut.
+pub(super) fn a_bad_line_is_refused_wherever_it_is_cut(alloc: Global) -> Result<bool, Error> {
+    for text in BAD_THIRD_LINES {
+        for place in 0..=text.len() {
+            match steps_of(alloc, &text[..place], &text[place..]).err() {
+                Some(Error::BadScript(3)) => {}
+                Some(Error::Memory) => return Err(Error::Memory),
+                _ => return Ok(false),
+            }
+        }
     }
-    let mut feed = ScriptFeed::new(alloc);
-    feed.feed(piece)
+    Ok(true)
 }
 
-#[test]
-fn a_first_word_that_is_no_command_is_refused_at_once(rt: HostRuntime) -> Result<(), Fail> {
-    let refused: [&[u8]; 6] = [b"\0", b"takes", b"sand", b" ", b"Drain 1", b"requests"];
-    for piece in refused {
-        assert_eq!(rt; fed(rt.alloc(), piece), Err(Error::BadScript(1)));
-    }
-    let kept: [&[u8]; 6] = [b"", b"#\0", b"s", b"request", b"drain ", b"take x"];
-    for piece in kept {
-        assert_eq!(rt; fed(rt.alloc(), piece), Ok(()));
-    }
-    Ok(())
-}
+/// Beginnings of a text, and what a feed says of each before the text's end is known.
+const BEGINNINGS: [(&[u8], Result<(), Error>); 12] = [
+    (b"\0", Err(Error::BadScript(1))),
+    (b"takes", Err(Error::BadScript(1))),
+    (b"sand", Err(Error::BadScript(1))),
+    (b" ", Err(Error::BadScript(1))),
+    (b"Drain 1", Err(Error::BadScript(1))),
+    (b"requests", Err(Error::BadScript(1))),
+    (b"", Ok(())),
+    (b"#\0", Ok(())),
+    (b"s", Ok(())),
+    (b"request", Ok(())),
+    (b"drain ", Ok(())),
+    (b"take x", Ok(())),
+];
 
-#[test]
-fn laws_of_scripts_are_called() {
-    script::scripts_have_no_bad_line();
+/// Whether a first word that is no command is refused at once.
+pub(super) fn a_first_word_is_refused_at_once(alloc: Global) -> Result<bool, Error> {
+    for (piece, want) in BEGINNINGS {
+        let said = ScriptFeed::new(alloc).feed(piece);
+        if said == Err(Error::Memory) {
+            return Err(Error::Memory);
+        }
+        if said != want {
+            return Ok(false);
+        }
+    }
+    Ok(true)
 }

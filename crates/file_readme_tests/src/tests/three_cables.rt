@@ -46,10 +46,3 @@ pub(crate) const IMAGE: [u8; 276] = [
     0x03, 0x6C, 0x61, 0x62, // lab
     0x0B, 0x4C, 0x61, 0x73, 0x65, 0x72, 0x57, 0x72, 0x69, 0x74, 0x65, 0x72, // LaserWriter
 ];
-
-/// The image of three cables, but with distance 15 in the first router's row for 30-39.
-pub(crate) fn far_row() -> [u8; 276] {
-    let mut bytes = IMAGE;
-    bytes[86] = 15;
-    bytes
-}

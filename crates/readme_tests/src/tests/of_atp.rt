@@ -1,9 +1,8 @@
-//! The example of the README of `atp`, and its laws.
+//! The example of the README of `atp`, and its law on a responder.
 
 use at_base::{Addr, Bytes, Error};
 use atp::{AnswerPart, Packet, Peer, Responder, Todo};
 use std::alloc::Global;
-use std::test::*;
 
 /// The packets that answer a request from 10.7, socket 128, with one part, or none where nothing
 /// new is asked.
@@ -33,36 +32,22 @@ const ONCE: [u8; 8] = [0x60, 1, 0, 1, 0, 0, 0, 0];
 /// The response with part 0, which is the last one, and "hello".
 const HELLO: [u8; 13] = [0x90, 0, 0, 1, 0, 0, 0, 0, b'h', b'e', b'l', b'l', b'o'];
 
-fn is_hello(packets: &[Bytes]) -> bool {
-    match packets {
-        [packet] => packet.as_slice() == HELLO.as_slice(),
-        _ => false,
+/// Whether the responder answers the request with "hello".
+fn says_hello(alloc: Global, responder: &mut Responder) -> Result<bool, Error> {
+    match answer(alloc, responder, &ONCE)?.as_slice() {
+        [packet] => Ok(packet.as_slice() == HELLO.as_slice()),
+        _ => Ok(false),
     }
 }
 
-/// Whether a new responder answers a request and its repeat with "hello".
-fn says_hello_twice(alloc: Global) -> Result<bool, Error> {
+/// Whether a new responder answers a request and its repeat.
+pub(super) fn a_request_and_its_repeat_are_answered(alloc: Global) -> Result<bool, Error> {
     let mut responder = Responder::new(alloc)?;
     atp::requests_are_few(&responder);
-    let first = answer(alloc, &mut responder, &ONCE)?;
-    let second = answer(alloc, &mut responder, &ONCE)?;
-    Ok(is_hello(first.as_slice()) && is_hello(second.as_slice()))
-}
-
-#[test]
-fn a_request_and_its_repeat_are_answered(rt: HostRuntime) -> Result<(), Fail> {
-    let answered = match says_hello_twice(rt.alloc()) {
-        Err(Error::Memory) => says_hello_twice(rt.alloc())?,
-        answer => answer?,
-    };
-    assert!(rt; answered);
-    Ok(())
-}
-
-#[test]
-fn laws_of_atp_are_called() {
-    atp::written_is_read();
-    atp::complete_response();
-    atp::the_end_may_come_early();
-    atp::a_kept_answer_lasts();
+    let first = says_hello(alloc, &mut responder);
+    let second = says_hello(alloc, &mut responder);
+    match (first, second) {
+        (Ok(first), Ok(second)) => Ok(first && second),
+        (Err(error), _) | (_, Err(error)) => Err(error),
+    }
 }

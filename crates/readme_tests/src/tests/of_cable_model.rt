@@ -1,9 +1,8 @@
-//! The example of the README of `cable_model`, and its law.
+//! The example of the README of `cable_model`.
 
 use at_base::{Bytes, Error, Hw};
 use cable_model::{Cables, Kind, Rooms};
 use std::alloc::Global;
-use std::test::*;
 
 /// A station puts a frame on cable 0, which is lost. The result is how many are still to hear it.
 fn put_and_lose(cables: &mut Cables, station: u16, to: Hw, bytes: Bytes) -> Result<usize, Error> {
@@ -30,24 +29,11 @@ const SEATS: [cable_model::Seat; 2] = [
     },
 ];
 
-/// The number of stations for which the node's frame to all is still pending.
-fn left(alloc: Global) -> Result<usize, Error> {
-    let mut cables = Cables::new(alloc, &SEATS, 2, Rooms::KNOWN)?;
+/// Whether the node's frame to all is pending for nobody once it is lost.
+pub(super) fn nobody_hears_what_is_lost(alloc: Global) -> Result<bool, Error> {
     let bytes = Bytes::copy(alloc, b"ping")?;
-    put_and_lose(&mut cables, 2, Hw::ALL, bytes)
-}
-
-#[test]
-fn nobody_hears_what_is_lost(rt: HostRuntime) -> Result<(), Fail> {
-    let count = match left(rt.alloc()) {
-        Err(Error::Memory) => left(rt.alloc())?,
-        answer => answer?,
-    };
-    assert_eq!(rt; count, 0);
-    Ok(())
-}
-
-#[test]
-fn laws_of_cables_are_called() {
-    cable_model::taking_ends_one_pair();
+    let mut cables = Cables::new(alloc, &SEATS, 2, Rooms::KNOWN)?;
+    let count = put_and_lose(&mut cables, 2, Hw::ALL, bytes);
+    drop(cables);
+    Ok(count? == 0)
 }

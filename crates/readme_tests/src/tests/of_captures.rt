@@ -6,7 +6,6 @@ use captures::{Extent, Said, capture_play, capture_run};
 use pcapng::{Packet, print_interface, print_packet, print_section};
 use std::alloc::Global;
 use std::io::Write;
-use std::test::*;
 use text::Output;
 
 /// Writes the capture of a transcript over one cable.
@@ -36,134 +35,135 @@ impl Said for Told<'_> {
     }
 }
 
+/// The router on its first cable.
+const ROUTER: Hw = Hw([2, 0, 0, 0, 0, 1]);
+
+/// The router on its second cable.
+const ROUTER_BEYOND: Hw = Hw([2, 0, 0, 0, 0, 2]);
+
+/// The node on the first cable.
+const NODE: Hw = Hw([2, 0, 0, 0, 0, 5]);
+
+/// The node on the second cable.
+const NODE_BEYOND: Hw = Hw([2, 0, 0, 0, 0, 6]);
+
 /// A router on both cables, and a node on each.
 const SEATS: [Seat; 4] = [
     Seat {
         cable: 0,
         station: 0,
         port: 0,
-        hw: Hw([2, 0, 0, 0, 0, 1]),
+        hw: ROUTER,
         group: None,
     },
     Seat {
         cable: 1,
         station: 0,
         port: 1,
-        hw: Hw([2, 0, 0, 0, 0, 2]),
+        hw: ROUTER_BEYOND,
         group: None,
     },
     Seat {
         cable: 0,
         station: 1,
         port: 0,
-        hw: Hw([2, 0, 0, 0, 0, 5]),
+        hw: NODE,
         group: None,
     },
     Seat {
         cable: 1,
         station: 2,
         port: 0,
-        hw: Hw([2, 0, 0, 0, 0, 6]),
+        hw: NODE_BEYOND,
         group: None,
     },
 ];
-
-/// A hardware address by its last byte.
-fn hardware(last: u8) -> Hw {
-    Hw([2, 0, 0, 0, 0, last])
-}
 
 const DATAGRAM: [u8; 13] = [0, 13, 0, 0, 0, 10, 0, 10, 7, 5, 4, 254, 4];
 
 /// The ranges of the cables.
 const CABLES: [Extent; 2] = [Extent { start: 10, end: 19 }, Extent { start: 20, end: 29 }];
 
-/// A node's frame to all, then two of the router's, of which the first is lost.
-fn three_frames(alloc: Global) -> Result<Cables, Error> {
-    let mut cables = Cables::new(alloc, &SEATS, 10, Rooms::KNOWN)?;
-    cables.put(0, 1, Hw::ALL, Kind::Ddp, Bytes::copy(alloc, &DATAGRAM)?)?;
-    let lost = cables.put(1, 0, hardware(6), Kind::Ddp, Bytes::copy(alloc, &DATAGRAM)?)?;
-    cables.put(
-        0,
-        0,
-        hardware(5),
-        Kind::Aarp,
-        Bytes::copy(alloc, b"no AARP")?,
-    )?;
-    cables.lose(lost)?;
-    Ok(cables)
-}
-
-/// A packet on an interface, at a time, and from whom to whom.
-fn packet(interface: u8, time: u64, from: u8, to: Hw) -> Packet {
+/// The packets of the capture of a play with three frames, where the first tick added one entry, the
+/// second none, and the third the others: a node's frame to all, then two of the router's, of which
+/// the first was lost.
+const PACKETS: [Packet; 3] = [
     Packet {
-        interface,
-        time,
-        to,
-        from: hardware(from),
+        interface: 0,
+        time: 200_000,
+        to: Hw::ALL,
+        from: NODE,
         kind: Kind::Ddp,
         lost: false,
+    },
+    Packet {
+        interface: 1,
+        time: 600_000,
+        to: NODE_BEYOND,
+        from: ROUTER_BEYOND,
+        kind: Kind::Ddp,
+        lost: true,
+    },
+    Packet {
+        interface: 0,
+        time: 600_001,
+        to: NODE,
+        from: ROUTER,
+        kind: Kind::Aarp,
+        lost: false,
+    },
+];
+
+/// Prints what the capture of the play should be.
+fn print_wanted(output: &mut Output<Vec<u8>>) -> Result<(), Error> {
+    print_section(output)?;
+    print_interface(output, 0, 10, 19)?;
+    print_interface(output, 1, 20, 29)?;
+    print_packet(output, &PACKETS[0], &DATAGRAM)?;
+    print_packet(output, &PACKETS[1], &DATAGRAM)?;
+    print_packet(output, &PACKETS[2], b"no AARP")?;
+    output.flush()
+}
+
+/// Whether the capture of a play with these cables is the one wanted.
+fn is_play_captured(alloc: Global, cables: &Cables, seats: &Seats) -> Result<bool, Error> {
+    let mut wanted = Output::new(alloc, Vec::with_capacity(alloc, 600)?);
+    let mut output = Output::new(alloc, Vec::with_capacity(alloc, 600)?);
+    let said = Told { cables };
+    let entries = cables.transcript();
+    let captured = capture_play(&mut output, &CABLES, seats, &[1, 0, 3], &said, entries);
+    match (captured, print_wanted(&mut wanted)) {
+        (Ok(()), Ok(())) => Ok(output.writer == wanted.writer),
+        (Err(error), _) | (_, Err(error)) => Err(error),
     }
 }
 
-/// What the capture of the frames should be, where the first tick added one entry, the second none,
-/// and the third the others.
-fn wanted(alloc: Global) -> Result<Vec<u8>, Error> {
-    let mut output = Output::new(alloc, Vec::with_capacity(alloc, 600)?);
-    print_section(&mut output)?;
-    print_interface(&mut output, 0, 10, 19)?;
-    print_interface(&mut output, 1, 20, 29)?;
-    print_packet(&mut output, &packet(0, 200_000, 5, Hw::ALL), &DATAGRAM)?;
-    let lost = Packet {
-        lost: true,
-        ..packet(1, 600_000, 2, hardware(6))
-    };
-    print_packet(&mut output, &lost, &DATAGRAM)?;
-    let other = Packet {
-        kind: Kind::Aarp,
-        ..packet(0, 600_001, 1, hardware(5))
-    };
-    print_packet(&mut output, &other, b"no AARP")?;
-    output.flush()?;
-    Ok(output.writer)
-}
-
-/// Whether the play's capture is the one wanted.
-fn is_captured(alloc: Global) -> Result<bool, Error> {
-    let cables = three_frames(alloc)?;
-    let seats = Seats::of(alloc, &SEATS)?;
-    let mut output = Output::new(alloc, Vec::with_capacity(alloc, 600)?);
-    let said = Told { cables: &cables };
-    let entries = cables.transcript();
-    capture_play(&mut output, &CABLES, &seats, &[1, 0, 3], &said, entries)?;
-    let wanted = wanted(alloc)?;
-    Ok(output.writer == wanted)
-}
-
-/// The length of the capture of a run in which a node puts a frame on the one cable.
-fn run_length(alloc: Global) -> Result<usize, Error> {
-    let mut cables = Cables::new(alloc, &SEATS, 10, Rooms::KNOWN)?;
-    cables.put(0, 1, Hw::ALL, Kind::Ddp, Bytes::copy(alloc, &DATAGRAM)?)?;
+/// The length of the capture of a run with these cables.
+fn run_length(alloc: Global, cables: &Cables) -> Result<usize, Error> {
     let mut output = Output::new(alloc, Vec::with_capacity(alloc, 200)?);
-    let said = Told { cables: &cables };
-    capture(alloc, &mut output, &SEATS, &said, cables.transcript())?;
-    Ok(output.writer.len())
+    let said = Told { cables };
+    match capture(alloc, &mut output, &SEATS, &said, cables.transcript()) {
+        Ok(()) => Ok(output.writer.len()),
+        Err(error) => Err(error),
+    }
 }
 
-#[test]
-fn a_capture_has_times_sources_and_losses(rt: HostRuntime) {
-    let found = match is_captured(rt.alloc()) {
-        Err(Error::Memory) => is_captured(rt.alloc()),
-        answer => answer,
-    };
-    assert_eq!(rt; found, Ok(true));
+/// Whether the capture of a run with one frame, a node's to all, has the right length, and that of a
+/// play with all three frames is the one wanted.
+fn are_captured(alloc: Global, cables: &mut Cables, seats: &Seats) -> Result<bool, Error> {
+    cables.put(0, 1, Hw::ALL, Kind::Ddp, Bytes::copy(alloc, &DATAGRAM)?)?;
+    let length = run_length(alloc, cables)?;
+    let lost = cables.put(1, 0, NODE_BEYOND, Kind::Ddp, Bytes::copy(alloc, &DATAGRAM)?)?;
+    cables.put(0, 0, NODE, Kind::Aarp, Bytes::copy(alloc, b"no AARP")?)?;
+    cables.lose(lost)?;
+    Ok(length == 28 + 44 + 68 && is_play_captured(alloc, cables, seats)?)
 }
 
-#[test]
-fn the_readme_captures_a_run(rt: HostRuntime) {
-    let found = match run_length(rt.alloc()) {
-        Err(Error::Memory) => run_length(rt.alloc()),
-        answer => answer,
-    };
-    assert_eq!(rt; found, Ok(28 + 44 + 68));
+/// Whether captures have times, sources and losses.
+pub(super) fn a_run_and_a_play_are_captured(alloc: Global) -> Result<bool, Error> {
+    let seats = Seats::of(alloc, &SEATS)?;
+    let mut cables = Cables::new(alloc, &SEATS, 10, Rooms::KNOWN)?;
+    let found = are_captured(alloc, &mut cables, &seats);
+    drop(cables);
+    found
 }

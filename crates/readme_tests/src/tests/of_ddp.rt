@@ -1,9 +1,8 @@
-//! The example of the README of `ddp`, and its laws.
+//! The example of the README of `ddp`.
 
 use at_base::{Addr, Bytes, Error};
 use ddp::{Header, View, kind, set_hops, socket, write};
 use std::alloc::Global;
-use std::test::*;
 
 /// Sends "ping" to the echo socket of 30.5, as it leaves a router two cables further on.
 fn ping(alloc: Global) -> Result<Bytes, Error> {
@@ -31,22 +30,7 @@ const PING: [u8; 18] = [
     0x01, 0x70, 0x69, 0x6E, 0x67, // a request, "ping"
 ];
 
-#[test]
-fn a_ping_is_sent(rt: HostRuntime) -> Result<(), Fail> {
-    let bytes = match ping(rt.alloc()) {
-        Err(Error::Memory) => ping(rt.alloc())?,
-        answer => answer?,
-    };
-    assert_eq!(rt; bytes.as_slice(), PING.as_slice());
-    Ok(())
-}
-
-#[test]
-fn laws_of_datagrams_are_called() {
-    ddp::written_is_read();
-    ddp::hops_leave_the_body();
-    ddp::set_hops_are_read();
-    ddp::padding_leaves_the_body();
-    ddp::value_agrees_with_bytes();
-    ddp::written_has_no_hops();
+/// Whether the ping has these bytes.
+pub(super) fn a_ping_is_sent(alloc: Global) -> Result<bool, Error> {
+    Ok(ping(alloc)?.as_slice() == PING.as_slice())
 }

@@ -4,7 +4,6 @@ use at_base::{Bytes, Error};
 use ddp::View;
 use echo::reply;
 use std::alloc::Global;
-use std::test::*;
 
 /// The data that answers the datagram at the front of the bytes, if it is an echo request.
 fn answered(alloc: Global, bytes: &[u8]) -> Result<Option<Bytes>, Error> {
@@ -19,25 +18,20 @@ const PING: [u8; 18] = [
     0x01, 0x70, 0x69, 0x6E, 0x67, // a request, "ping"
 ];
 
-#[test]
-fn a_request_is_answered(rt: HostRuntime) -> Result<(), Fail> {
-    let data = match answered(rt.alloc(), &PING) {
-        Err(Error::Memory) => answered(rt.alloc(), &PING)?,
-        answer => answer?,
-    };
-    let want = [0x02, 0x70, 0x69, 0x6E, 0x67];
-    assert!(rt; matches!(&data, Some(data) if data.as_slice() == want.as_slice()));
-    Ok(())
+/// The data of the reply to it.
+const REPLY: [u8; 5] = [0x02, 0x70, 0x69, 0x6E, 0x67];
+
+/// Whether this data, if any, answers the datagram.
+fn is_answered(alloc: Global, bytes: &[u8], wanted: Option<&[u8]>) -> Result<bool, Error> {
+    match answered(alloc, bytes)? {
+        Some(data) => Ok(wanted == Some(data.as_slice())),
+        None => Ok(wanted.is_none()),
+    }
 }
 
-#[test]
-fn a_reply_is_not_answered(rt: HostRuntime) -> Result<(), Fail> {
+/// Whether the request is answered, and the same datagram as a reply isn't.
+pub(super) fn a_request_is_answered_and_a_reply_is_not(alloc: Global) -> Result<bool, Error> {
     let mut bytes = PING;
     bytes[13] = 0x02;
-    let data = match answered(rt.alloc(), &bytes) {
-        Err(Error::Memory) => answered(rt.alloc(), &bytes)?,
-        answer => answer?,
-    };
-    assert!(rt; data.is_none());
-    Ok(())
+    Ok(is_answered(alloc, &bytes, None)? && is_answered(alloc, &PING, Some(&REPLY))?)
 }

@@ -1,9 +1,8 @@
-//! The example of the README of `nbp`, and its laws.
+//! The example of the README of `nbp`.
 
-use at_base::{Addr, Bytes, Error};
+use at_base::{Addr, Bytes, Error, Text32};
 use nbp::{Function, Names, Packet, write};
 use std::alloc::Global;
-use std::test::*;
 
 /// The replies of node 30.5, one for each of its names that a lookup asks for.
 fn replies(alloc: Global, names: &Names, bytes: &[u8]) -> Result<Vec<Bytes>, Error> {
@@ -27,46 +26,30 @@ const LOOKUP: [u8; 16] = [
     0x04, 0x62, 0x6C, 0x75, 0x65, // zone blue
 ];
 
-fn text(bytes: &[u8]) -> Result<at_base::Text32, Error> {
-    at_base::Text32::new(bytes)
-}
-
 /// The replies of a node that has the LaserWriter lab on its socket 129.
 fn replies_of_lab(alloc: Global) -> Result<Vec<Bytes>, Error> {
+    let (lab, kind) = (Text32::new(b"lab")?, Text32::new(b"LaserWriter")?);
     let mut names = Names::new(alloc)?;
-    names.register(text(b"lab")?, text(b"LaserWriter")?, 129)?;
-    replies(alloc, &names, &LOOKUP)
+    match names.register(lab, kind, 129) {
+        Ok(_) => replies(alloc, &names, &LOOKUP),
+        Err(error) => Err(error),
+    }
 }
 
+/// Whether the packet is the reply, ID 1, that lab is at socket 129 of 30.5.
 fn is_lab(bytes: &[u8]) -> Result<bool, Error> {
     let packet = Packet::read(bytes)?;
-    let lab = nbp::Tuple {
-        at: Addr { net: 30, node: 5 },
-        socket: 129,
-        enumerator: 1,
-        object: text(b"lab")?,
-        kind: text(b"LaserWriter")?,
-        zone: text(b"")?,
-    };
+    let lab = packet.first();
     let is_reply = packet.function() == Function::Reply && packet.id() == 1;
-    Ok(is_reply && packet.first().copy() == lab)
+    let is_there = lab.at() == Addr { net: 30, node: 5 } && lab.socket() == 129;
+    let is_named = lab.object() == b"lab".as_slice() && lab.kind() == b"LaserWriter".as_slice();
+    Ok(is_reply && is_there && is_named && lab.enumerator() == 1 && lab.zone().is_empty())
 }
 
-#[test]
-fn a_lookup_is_answered(rt: HostRuntime) -> Result<(), Fail> {
-    let packets = match replies_of_lab(rt.alloc()) {
-        Err(Error::Memory) => replies_of_lab(rt.alloc())?,
-        answer => answer?,
-    };
-    assert_eq!(rt; packets.len(), 1);
-    assert!(rt; is_lab(packets[0].as_slice())?);
-    Ok(())
-}
-
-#[test]
-fn laws_of_names_are_called() {
-    nbp::written_is_read();
-    nbp::requests_have_one_tuple();
-    nbp::functions_leave_the_key();
-    nbp::trailing_bytes_leave_the_key();
+/// Whether the lookup gets one packet, with lab.
+pub(super) fn a_lookup_is_answered(alloc: Global) -> Result<bool, Error> {
+    match replies_of_lab(alloc)?.as_slice() {
+        [packet] => is_lab(packet.as_slice()),
+        _ => Ok(false),
+    }
 }

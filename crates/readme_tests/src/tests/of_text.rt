@@ -1,7 +1,7 @@
 //! The example of the README of `text`.
 
+use at_base::Error;
 use std::alloc::{AllocError, Global};
-use std::test::*;
 use text::{address, put_address, put_hex};
 
 /// A line with the address that the word spells, and these bytes in hexadecimal digits; `None` if
@@ -17,22 +17,11 @@ fn line_of(alloc: Global, word: &[u8], bytes: &[u8]) -> Result<Option<Vec<u8>>, 
     Ok(Some(line))
 }
 
-#[test]
-fn a_line_has_an_address_and_bytes(rt: HostRuntime) -> Result<(), Fail> {
-    let line = match line_of(rt.alloc(), b"10.7", &[0, 13]) {
-        Ok(line) => line,
-        Err(_) => line_of(rt.alloc(), b"10.7", &[0, 13])?,
-    };
-    assert!(rt; line.is_some());
-    if let Some(line) = line {
-        assert_eq!(rt; line.as_slice(), b"10.7 000D".as_slice());
+/// Whether a word that is an address has its line, and one without a node has none.
+pub(super) fn a_line_has_an_address_and_bytes(alloc: Global) -> Result<bool, Error> {
+    let has_none = line_of(alloc, b"10", &[0, 13])?.is_none();
+    match line_of(alloc, b"10.7", &[0, 13])? {
+        Some(line) => Ok(has_none && line.as_slice() == b"10.7 000D".as_slice()),
+        None => Ok(false),
     }
-    Ok(())
-}
-
-#[test]
-fn a_word_without_a_node_has_no_line(rt: HostRuntime) -> Result<(), Fail> {
-    let line = line_of(rt.alloc(), b"10", &[0, 13])?;
-    assert!(rt; line.is_none());
-    Ok(())
 }

@@ -7,5 +7,5 @@ pub returns-in_ok-print_port-in-len1-up-clause-gone : goal.returns-in_ok-print_p
 returns-in_ok-print_port-in-len1-up-clause-gone g t c =
     on_ok c.print_ports.result c.print_ports.ensures.gone
     (λ others.
-    goes_each_from (port_line c.args.fault c.args.r) c.args.p c.args.ports.now c.first-item.result _ _ _ _ _ _
+    goes_each_from (port_line c.args.mark c.args.r) c.args.p c.args.ports.now c.first-item.result _ _ _ _ _ _
     c.in-len1-up.len_at_least c.first-item.is c.in_ok-print_port-in-len1-up.ensures.gone others)

@@ -1,21 +1,31 @@
--- The part of a drawing that is red: the place of the verdict's fault.
+-- What is marked in a drawing: the place where the verdict's rule is broken, or, of tables that pass, the first row that
+-- may change.
 use Rattle.std.specs.Prelude.{ℕ, ◌+◌, Bool, false, ◌&&◌, ◌==◌, Option, Some, None}
 use Rattle.std.specs.Prelude.{if◌then◌else◌}
-use Rattle.at_base.specs.declared.error.Fault.{Fault}
 use Rattle.at_base.specs.declared.error.Place.{Place}
 use Rattle.at_base.specs.declared.error.Place.TheVariants as place
 use Rattle.audit.specs.declared.verdict.Verdict.{Verdict}
 use Rattle.audit.specs.declared.verdict.Verdict.TheVariants.{Yes, No}
+use Rattle.drawing.specs.declared.marks.Mark.{Mark}
+use Rattle.drawing.specs.declared.marks.Mark.TheVariants.{Broken, MayChange}
+use Rattle.settled.specs.declared.settling.Settling.{Settling}
+use Rattle.settled.specs.declared.settling.Settling.TheVariants as settling
 
--- The fault of a verdict, if the verdict is no.
-abbrev pub fault_of : Verdict → Option Fault
-fault_of (Yes summary) = None
-fault_of (No f) = Some f
+-- The mark of an internet with this verdict, whose tables are settled or not: none where the verdict is yes and they are.
+abbrev pub mark_of : Verdict → Settling → Option Mark
+mark_of (No f) s = Some (Broken f)
+mark_of (Yes summary) settling.Yes = None
+mark_of (Yes summary) (settling.No p) = Some (MayChange p)
 
--- The fault, if its place passes the test.
-abbrev pub fault_at : (Place → Bool) → Option Fault → Option Fault
-fault_at test None = None
-fault_at test (Some f) = if test f.place then Some f else None
+-- The place of a mark.
+abbrev pub place_of : Mark → Place
+place_of (Broken f) = f.place
+place_of (MayChange p) = p
+
+-- The mark, if its place passes the test.
+abbrev pub mark_at : (Place → Bool) → Option Mark → Option Mark
+mark_at test None = None
+mark_at test (Some m) = if test (place_of m) then Some m else None
 
 -- The place is the cable with index k.
 abbrev pub is_cable : ℕ → Place → Bool
