@@ -6,7 +6,7 @@ use Rattle.cable_model.specs.Transcript.{Entry, Frame, Lost, Put}
 use Rattle.cable_model.specs.declared.seat.Seat.{Seat}
 use Rattle.captures.specs.declared.head.Extent.{Extent}
 use Rattle.pcapng.specs.Captures.{interface_bytes, packet_bytes, section_bytes}
-use Rattle.pcapng.specs.Frames.{max_bytes}
+use Rattle.ethertalk.specs.Frames.{max_bytes}
 use Rattle.pcapng.specs.declared.packet.Packet.{Packet}
 
 -- the hardware address of a seat, and one of zeros if there is none

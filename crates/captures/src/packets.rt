@@ -4,7 +4,7 @@ ghost use Rattle.std.specs.Prelude.{◌≡◌, ◌+◌, ◌<◌, ◌≤◌, ◌^
 ghost use Rattle.cable_model.specs.Logs.{entry_at};
 ghost use Rattle.captures.specs.Packets as spec;
 ghost use Rattle.captures.specs.Packets.{entries_bytes, entry_bytes, time_after};
-ghost use Rattle.pcapng.specs.Frames.{max_bytes};
+ghost use Rattle.ethertalk.specs.Frames.{max_bytes};
 ghost use Rattle.text.specs.Going.{Goes};
 ghost use Rattle.text.specs.Writing.{Prints};
 
@@ -12,7 +12,8 @@ use crate::losses::is_among;
 use crate::said::Said;
 use at_base::{Error, Hw};
 use cable_model::{Entry, Seats};
-use pcapng::{MAX_BYTES, Packet, print_packet};
+use ethertalk::MAX_BYTES;
+use pcapng::{Packet, print_packet};
 use std::io::Write;
 use text::Output;
 

@@ -4,13 +4,14 @@ use Rattle.std.proofs.lemmas.List.{append-nil}
 use Rattle.at_base.proofs.Laws.{follows_all, read_again}
 use Rattle.at_base.specs.Reading.{read}
 use Rattle.at_base.specs.Spelling.{bytes_of}
-use Rattle.pcapng.proofs.Laid.{frame_length, name_few}
-use Rattle.pcapng.proofs.Shape.{frame_lawful, interface_lawful, packet_lawful, section_lawful}
-use Rattle.pcapng.proofs.Values.{frame_value, interface_value, packet_value, section_value}
+use Rattle.ethertalk.proofs.Values.{frame_length}
+use Rattle.pcapng.proofs.Laid.{name_few}
+use Rattle.pcapng.proofs.Shape.{interface_lawful, packet_lawful, section_lawful}
+use Rattle.pcapng.proofs.Values.{interface_value, packet_value, section_value}
 use Rattle.pcapng.specs.Blocks.{interface, packet_block, section}
 use Rattle.pcapng.specs.Captures.{FitsPacket, block_of, cable_name, frame_of, interface_bytes, packet_bytes, section_bytes}
 use Rattle.pcapng.specs.Fields.{blocks}
-use Rattle.pcapng.specs.Frames.{frame, max_bytes}
+use Rattle.ethertalk.specs.Frames.{max_bytes}
 use Rattle.pcapng.specs.declared.packet.Packet.{Packet}
 
 pub section_again : (rest : List ℕ) → read blocks section (section_bytes ++ rest) ≡ Ok (tt, rest)
@@ -29,10 +30,3 @@ packet_again p bytes rest fits few =
     let b = block_of p bytes in
     let len : length b.packet < 65536 = omega (arith, frame_length (frame_of p bytes) fits.to fits.from) in
     read_again blocks packet_block packet_lawful b rest (packet_value b fits.interface fits.time len) (follows_all packet_block b rest)
-
-pub frame_again : (p : Packet) (bytes : List ℕ) → FitsPacket p → length bytes ≤ max_bytes
-    → read blocks frame (bytes_of frame (frame_of p bytes)) ≡ Ok (frame_of p bytes, [])
-frame_again p bytes fits few =
-    let f = frame_of p bytes in
-    ap (read blocks frame) (sym (append-nil (bytes_of frame f)))
-    ∙ read_again blocks frame frame_lawful f [] (frame_value f fits.to fits.from few) (follows_all frame f [])

@@ -11,9 +11,6 @@ use Rattle.at_base.specs.Spelling.{bytes_of}
 use Rattle.pcapng.specs.Blocks.{PacketBlock, interface, interface_total, options, packet_block, packet_total, wrong_captured}
 use Rattle.pcapng.specs.Captures.{cable_name}
 use Rattle.pcapng.specs.Fields.{Wrong, any, filling, four, four_bytes, only, two_bytes}
-use Rattle.pcapng.specs.Frames.{Frame, first_of, frame, llc, others_of}
-use Rattle.station.specs.declared.heard.Kind.{Kind}
-use Rattle.station.specs.declared.heard.Kind.TheVariants.{Aarp, Ddp}
 
 -- two lists of four numbers, which are equal one by one
 four_alike : {a b c d k l m n : ℕ} → a ≡ k → b ≡ l → c ≡ m → d ≡ n → a ∷ b ∷ c ∷ d ∷ [] ≡ k ∷ l ∷ m ∷ n ∷ []
@@ -45,27 +42,6 @@ interface_laid name total few is =
     rw (is, four_laid (only 1) 1 (omega arith), four_laid any all most, four_laid (only 0) 0 (omega arith), four_laid (only all) all most)
     (regroup_name (four_bytes 1 ++ four_bytes all ++ two_bytes 1 ++ two_bytes 0 ++ four_bytes 0) (two_bytes 2 ++ two_bytes (length name))
     name (filling (length name)) (four_bytes 0) (four_bytes all))
-
--- the first byte of a SNAP protocol is a byte
-first_is : (k : Kind) → byte_at 0 (first_of k) ≡ first_of k
-first_is Ddp = refl
-first_is Aarp = refl
-
--- what is printed of a frame is the frame
-pub frame_laid : (f : Frame)
-    → (f.to.0 ++ f.from.0) ++ two_bytes (8 + length f.packet) ++ (llc ++ first_of f.kind ∷ others_of f.kind) ++ f.packet ≡ bytes_of frame f
-unfolding frame
-frame_laid f = rw (first_is f.kind) (simp (append_assoc, append-nil))
-
--- a SNAP protocol has four further bytes
-pub others_four : (k : Kind) → length (others_of k) ≡ 4
-others_four Ddp = refl
-others_four Aarp = refl
-
--- a frame has 22 bytes in front of its packet
-pub frame_length : (f : Frame) → length f.to.0 ≡ 6 → length f.from.0 ≡ 6 → length (bytes_of frame f) ≡ 22 + length f.packet
-unfolding frame
-frame_length f to from = omega (arith, length-append {A = ℕ}, others_four f.kind, to, from)
 
 -- whether a block has options is seen from its length
 pub options_seen : (len : ℕ) (lost : Bool) → (packet_total len true == packet_total len lost) ≡ lost

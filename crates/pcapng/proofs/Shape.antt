@@ -10,8 +10,6 @@ use Rattle.at_base.specs.Text.{same_bytes}
 use Rattle.pcapng.specs.Blocks.{interface, interface_total, options, packet_block, packet_total, section, unknown, wrong_captured}
 use Rattle.pcapng.specs.Blocks.{wrong_name}
 use Rattle.pcapng.specs.Fields.{Wrong, filling, four, only, only_bytes, other, size}
-use Rattle.pcapng.specs.Frames.{first_of, frame, kind_of, llc, others_of, wrong_first, wrong_length}
-use Rattle.station.specs.declared.heard.Kind.TheVariants.{Aarp, Ddp}
 
 -- what passes the test of one value is that value
 only_is : (value n : ℕ) → only value n ≡ None → value ≡ n
@@ -207,40 +205,6 @@ packet_lawful = (
                 ),
               ),
             ),
-          ),
-        ),
-      ),
-    ),
-  ),
-)
-
--- the kind of packets with a first byte that passes has that byte
-first_again : (n : ℕ) → wrong_first n ≡ None → first_of (kind_of n) ≡ n
-first_again n = by (eqb n 8) refl
-  where
-    by : (b : Bool) → eqb n 8 ≡ b → cond b None (cond (eqb n 0) None (Some other)) ≡ None → first_of (cond b Ddp Aarp) ≡ n
-    by true t h = sym (eqb-true _ _ t)
-    by false t h = sym (eqb-true _ _ (is_right (eqb n 0) other h))
-
--- a length that passes is at least that of the headers
-length_least : (n : ℕ) → wrong_length n ≡ None → 8 ≤ n
-length_least n h = ltb-false _ _ (not_wrong (ltb n 8) _ _ h).0
-
-pub frame_lawful : IsLawful frame
-unfolding frame
-frame_lawful = λ to p1. (
-  λ from p2 len p3 header p4 first p5 others p6 packet p7. refl,
-  λ from p2. (
-    λ len p3 header p4 first p5 others p6 packet p7. refl,
-    λ len p3. (
-      λ header p4 first p5 others p6 packet p7. omega (arith, length_least len p3.1, p7.0),
-      λ header p4. (
-        λ first p5 others p6 packet p7. only_bytes_is llc header p4.1,
-        λ first p5. (
-          λ others p6 packet p7. first_again first p5.1,
-          λ others p6. (
-            λ packet p7. only_bytes_is (others_of (kind_of first)) others p6.1,
-            λ packet p7. (refl, tt),
           ),
         ),
       ),

@@ -5,13 +5,10 @@ use Rattle.std.proofs.lemmas.Bool.{eq-eqb, le-ltb}
 use Rattle.std.proofs.lemmas.List.{length-replicate}
 use Rattle.at_base.proofs.Texts.{same_bytes_self}
 use Rattle.at_base.specs.Spelling.{IsValue}
-use Rattle.pcapng.proofs.Laid.{options_seen, others_four}
+use Rattle.pcapng.proofs.Laid.{options_seen}
 use Rattle.pcapng.specs.Blocks.{PacketBlock, interface, interface_total, options, packet_block, packet_total, section}
 use Rattle.pcapng.specs.Blocks.{wrong_captured}
 use Rattle.pcapng.specs.Fields.{Wrong, any, filling, four, gap, only, only_bytes}
-use Rattle.pcapng.specs.Frames.{Frame, first_of, frame, kind_of, max_bytes, others_of, wrong_first, wrong_length}
-use Rattle.station.specs.declared.heard.Kind.{Kind}
-use Rattle.station.specs.declared.heard.Kind.TheVariants.{Aarp, Ddp}
 
 -- a number passes the test of itself
 pub only_self : (n : ℕ) → only n n ≡ None
@@ -129,44 +126,3 @@ packet_value b seat time few =
         ),
       ),
     )
-
--- the kind of packets with the first byte of a kind is that kind
-pub kind_again : (k : Kind) → kind_of (first_of k) ≡ k
-kind_again Ddp = refl
-kind_again Aarp = refl
-
-first_few : (k : Kind) → first_of k < 256
-first_few Ddp = omega arith
-first_few Aarp = omega arith
-
-first_passes : (k : Kind) → wrong_first (first_of k) ≡ None
-first_passes Ddp = refl
-first_passes Aarp = refl
-
-length_passes : (n : ℕ) → n ≤ max_bytes → wrong_length (8 + n) ≡ None
-length_passes n few =
-    let least : ltb (8 + n) 8 ≡ false = le-ltb _ _ (omega arith) in
-    let most : ltb (8 + max_bytes) (8 + n) ≡ false = le-ltb _ _ (omega arith) in
-    rw (least, most) refl
-
-pub frame_value : (f : Frame) → length f.to.0 ≡ 6 → length f.from.0 ≡ 6 → length f.packet ≤ max_bytes → IsValue frame f
-unfolding frame
-frame_value f to from few = (
-  (to, refl),
-  (
-    (from, refl),
-    (
-      (omega arith, length_passes (length f.packet) few),
-      (
-        (refl, refl),
-        (
-          (first_few f.kind, first_passes f.kind),
-          (
-            (others_four f.kind, rw (kind_again f.kind) (only_bytes_self (others_of f.kind))),
-            ((omega arith, refl), ap (λ (k : Kind). record f { kind = k }) (kind_again f.kind)),
-          ),
-        ),
-      ),
-    ),
-  ),
-)

@@ -3,8 +3,8 @@ use Rattle.std.specs.Prelude.{◌≡◌, ℕ, ◌+◌, ◌<◌, ◌^◌, List, �
 use Rattle.std.specs.Fmt.{decimal}
 use Rattle.at_base.specs.Spelling.{bytes_of}
 use Rattle.at_base.specs.Texts.{range_text}
+use Rattle.ethertalk.specs.Frames.{Framed, frame}
 use Rattle.pcapng.specs.Blocks.{PacketBlock, interface, packet_block, section}
-use Rattle.pcapng.specs.Frames.{Frame, frame}
 use Rattle.pcapng.specs.declared.packet.Packet.{Packet}
 
 -- the bytes of the section header
@@ -27,7 +27,7 @@ pub record FitsPacket (p : Packet) : Type 0 where
   pub from : length p.from.0 ≡ 6
 
 -- the frame of a packet with these bytes
-abbrev pub frame_of : Packet → List ℕ → Frame
+abbrev pub frame_of : Packet → List ℕ → Framed
 frame_of p bytes = record { to = p.to; from = p.from; kind = p.kind; packet = bytes }
 
 -- the block of a packet with these bytes

@@ -1,4 +1,3 @@
 pub mod Fields
-pub mod Frames
 pub mod Blocks
 pub mod Captures

@@ -2,15 +2,15 @@
 
 ghost use Rattle.std.specs.Prelude.{◌≡◌, ◌++◌, ◌+◌, ◌≤◌, ◌/◌, ◌%◌, ◌^◌, ◌<◌, codes, length, OnOk};
 ghost use Rattle.at_base.specs.Spelling.{bytes_of};
+ghost use Rattle.ethertalk.specs.Frames.{frame, max_bytes};
 ghost use Rattle.pcapng.specs.Blocks as spec;
 ghost use Rattle.pcapng.specs.Blocks.{interface, interface_total, options};
-ghost use Rattle.pcapng.specs.Captures.{packet_bytes, section_bytes};
+ghost use Rattle.pcapng.specs.Captures.{frame_of, packet_bytes, section_bytes};
 ghost use Rattle.pcapng.specs.Fields.{filling, four_bytes, two_bytes};
-ghost use Rattle.pcapng.specs.Frames.{max_bytes};
 
 use crate::fields::{filled, put_bytes, put_filling, put_four, put_two};
-use crate::frames::{FRONT, put_frame};
 use crate::packet::{Packet, recall_fits};
+use ethertalk::{Frame, HEADERS_LEN, put_frame};
 use std::alloc::AllocError;
 
 /// The section header block.
@@ -115,6 +115,21 @@ fn put_options(text: &mut Vec<u8>, lost: bool) -> Result<(), AllocError>
     }
 }
 
+/// Appends the frame of a packet.
+fn put_packet_frame(text: &mut Vec<u8>, packet: &Packet, bytes: &[u8]) -> Result<(), AllocError>
+    requires { length bytes.now ≤ max_bytes }
+    ensures { OnOk result (text.new.items
+        ≡ text.old.items ++ bytes_of frame (frame_of packet.now bytes.now)) }
+{
+    let frame = Frame {
+        to: packet.to,
+        from: packet.from,
+        kind: packet.kind,
+        packet: bytes,
+    };
+    put_frame(text, &frame)
+}
+
 /// Appends the block of a packet.
 pub(crate) fn put_packet(
     text: &mut Vec<u8>,
@@ -125,10 +140,10 @@ pub(crate) fn put_packet(
     ensures { OnOk result (text.new.items ≡ text.old.items ++ packet_bytes packet.now bytes.now) }
 {
     recall_fits(packet);
-    let len = FRONT + bytes.len() as u32;
+    let len = HEADERS_LEN + bytes.len() as u32;
     let total = packet_total(len, packet.lost);
     put_packet_front(text, packet, total, len)?;
-    put_frame(text, packet, bytes)?;
+    put_packet_frame(text, packet, bytes)?;
     put_filling(text, len)?;
     put_options(text, packet.lost)?;
     put_four(text, total)

@@ -1,14 +1,14 @@
 //! Laws of capture files: what is printed is read back, whatever follows it. Each law is the contract
 //! of a function that does nothing.
 
-ghost use Rattle.std.specs.Prelude.{◌≡◌, ◌++◌, ◌<◌, ◌≤◌, [], List, length, ℕ};
+ghost use Rattle.std.specs.Prelude.{◌≡◌, ◌++◌, ◌<◌, ◌≤◌, List, length, ℕ};
 ghost use Rattle.at_base.specs.Reading.{read};
 ghost use Rattle.at_base.specs.Spelling.{bytes_of};
 ghost use Rattle.pcapng.specs.Blocks.{interface, packet_block, section};
-ghost use Rattle.pcapng.specs.Captures.{FitsPacket, block_of, cable_name, frame_of};
+ghost use Rattle.pcapng.specs.Captures.{FitsPacket, block_of, cable_name};
 ghost use Rattle.pcapng.specs.Captures.{interface_bytes, packet_bytes, section_bytes};
 ghost use Rattle.pcapng.specs.Fields.{blocks};
-ghost use Rattle.pcapng.specs.Frames.{frame, max_bytes};
+ghost use Rattle.ethertalk.specs.Frames.{max_bytes};
 ghost use Rattle.pcapng.specs.declared.packet.Packet.{Packet};
 
 /// The section header is read back.
@@ -27,11 +27,4 @@ pub fn interface_is_read()
 pub fn packet_is_read()
     ensures { (p : Packet) (bytes rest : List ℕ) → FitsPacket p → length bytes ≤ max_bytes
         → read blocks packet_block (packet_bytes p bytes ++ rest) ≡ Ok (block_of p bytes, rest) }
-{}
-
-/// The frame in the block of a packet is read back: who gets and who sends it, the kind of the
-/// packet, and its bytes.
-pub fn frame_is_read()
-    ensures { (p : Packet) (bytes : List ℕ) → FitsPacket p → length bytes ≤ max_bytes
-        → read blocks frame (bytes_of frame (frame_of p bytes)) ≡ Ok (frame_of p bytes, []) }
 {}

@@ -3,13 +3,11 @@
 
 mod blocks;
 mod fields;
-mod frames;
 mod laws;
 mod names;
 mod packet;
 mod printing;
 
-pub use frames::MAX_BYTES;
-pub use laws::{frame_is_read, interface_is_read, packet_is_read, section_is_read};
+pub use laws::{interface_is_read, packet_is_read, section_is_read};
 pub use packet::{Packet, recall_fits};
 pub use printing::{print_interface, print_packet, print_section};

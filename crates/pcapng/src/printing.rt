@@ -2,7 +2,7 @@
 
 ghost use Rattle.std.specs.Prelude.{◌≤◌, length, OnOk};
 ghost use Rattle.pcapng.specs.Captures.{interface_bytes, packet_bytes, section_bytes};
-ghost use Rattle.pcapng.specs.Frames.{max_bytes};
+ghost use Rattle.ethertalk.specs.Frames.{max_bytes};
 ghost use Rattle.text.specs.Going.{Goes};
 ghost use Rattle.text.specs.Writing.{Prints};
 

@@ -13,7 +13,8 @@ use Rattle.audit.proofs.WalkLists.{At, at_map, find_at, find_found, index_at}
 use Rattle.learning.specs.Queries.{is_asked, queries_of, query_about}
 use Rattle.rtmp.specs.States.{is_usable}
 use Rattle.rtmp.specs.Routes as routes
-use Rattle.settled.proofs.Next.{any_at, row_good}
+use Rattle.settled.proofs.Next.{row_good}
+use Rattle.settled.proofs.Tests.{any_at}
 use Rattle.table_image.specs.Internet.{Internet}
 use Rattle.table_image.specs.RouteRows.{route_row}
 use Rattle.table_image.specs.ZoneMaps.{is_told, known_of_list, range_of, zone_map}

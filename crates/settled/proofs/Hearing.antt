@@ -19,7 +19,8 @@ use Rattle.rtmp.specs.declared.row.Row.{Row as RouteRow}
 use Rattle.rtmp.specs.declared.state.State.TheVariants.{Bad}
 use Rattle.rtmp.specs.declared.table.Change.{Change}
 use Rattle.rtmp.specs.declared.table.Change.TheVariants.{Ignored, Changed}
-use Rattle.settled.proofs.Next.{any_at, ends_of, near_enough, row_test, same_when}
+use Rattle.settled.proofs.Next.{ends_of, near_enough, row_test, same_when}
+use Rattle.settled.proofs.Tests.{any_at}
 use Rattle.settled.specs.Exchange.{image_row}
 use Rattle.settled.specs.Moved.{IsMoved, IsWay}
 use Rattle.settled.specs.Offers.{is_on, same_range}

@@ -1,5 +1,7 @@
 pub mod Places
+pub mod Tests
 pub mod Next
+pub mod Alike
 pub mod Bare
 pub mod Moved
 pub mod Stays

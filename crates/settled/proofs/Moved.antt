@@ -14,7 +14,8 @@ use Rattle.audit.specs.Rules.{at_row, c1, c2, c3, c4, c5, c6, c7, c8, c9, c10, i
 use Rattle.audit.specs.Rules.{lacks_row, port_on, bad_direct, next_router, is_no_other, same_row, not_one_less, bad_step, Passes}
 use Rattle.audit.proofs.WalkLists.{At, at_within, at_below, find_at, find_found}
 use Rattle.settled.proofs.Bare.{bare, bared, owner_bare, c1_bare, c2_bare, c8_bare, c9_bare, c10_bare}
-use Rattle.settled.proofs.Next.{any_at, row_test, row_good, direct_good}
+use Rattle.settled.proofs.Next.{row_test, row_good, direct_good}
+use Rattle.settled.proofs.Tests.{any_at}
 use Rattle.settled.specs.Moved.{IsMoved, IsMovedRouter, IsMovedTo}
 use Rattle.table_image.specs.Internet.{Internet}
 use Rattle.table_image.specs.Rows.{is_direct}

@@ -8,9 +8,10 @@ use Rattle.audit.specs.Places.{on, index_of}
 use Rattle.audit.specs.Routing.{owner}
 use Rattle.audit.specs.Rules.{at_row, cable_of, bad_range, port_on, bad_direct, next_router, is_no_other, same_row, bad_step, Passes}
 use Rattle.audit.proofs.WalkFacts.{some_of, not_both, direct_is, indirect_is, other_is, one_less_is, next_is, owner_is}
-use Rattle.audit.proofs.WalkLists.{At, at_below, at_one, index_at, index_found, find_at, none_passes}
+use Rattle.audit.proofs.WalkLists.{At, at_below, at_one, index_at, index_found, find_at}
 use Rattle.audit.proofs.WalkSteps.{owner_has_port}
 use Rattle.rtmp.specs.States.{is_usable}
+use Rattle.settled.proofs.Tests.{any_at}
 use Rattle.settled.specs.Offers.{same_range, is_on, leaves_by, is_offer, is_nearer_offer, offers_nearer, has_nearer_offer}
 use Rattle.settled.specs.Offers.{IsOfferedByNext}
 use Rattle.settled.specs.Settling.{may_change, IsSettled}
@@ -20,11 +21,6 @@ use Rattle.table_image.specs.declared.cable.Cable.{Cable}
 use Rattle.table_image.specs.declared.port.Port.{Port}
 use Rattle.table_image.specs.declared.row.Row.{Row}
 use Rattle.table_image.specs.declared.router.Router.{Router}
-
--- a list has an element that passes, if one of its places has
-pub any_at : {X : Type 0} (t : X → Bool) (xs : List X) (k : ℕ) (x : X) → At xs k x → t x ≡ true → list_any t xs ≡ true
-any_at t xs k x at passes =
-    elim (cases_Bool (list_any t xs)) [ inl e ↦ e | inr e ↦ absurd (true≢false (sym passes ∙ none_passes t xs e k x at)) ]
 
 -- rows of the same range start and end alike
 pub ends_of : (a b : Row) → same_range a b ≡ true → (a.start ≡ b.start) × (a.end ≡ b.end)

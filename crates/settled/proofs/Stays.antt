@@ -5,9 +5,10 @@ use Rattle.std.specs.List.{list_any}
 use Rattle.std.proofs.lemmas.Bool.{and_parts, cases_Bool, ltb-true}
 use Rattle.at_base.specs.declared.error.Place.TheVariants as place
 use Rattle.audit.specs.Rules.{Passes}
-use Rattle.audit.proofs.WalkLists.{At, find_at, find_found}
+use Rattle.audit.proofs.WalkLists.{At}
 use Rattle.settled.proofs.Moved.{row_keeps, was}
 use Rattle.settled.proofs.Next.{ends_of, near_enough, same_when}
+use Rattle.settled.proofs.Tests.{any_has}
 use Rattle.settled.specs.Moved.{IsMovedTo}
 use Rattle.settled.specs.Offers.{has_nearer_offer, is_nearer_offer, offers_nearer}
 use Rattle.settled.specs.Settling.{may_change, IsSettled}
@@ -16,13 +17,6 @@ use Rattle.table_image.specs.Rows.{is_direct}
 use Rattle.table_image.specs.declared.port.Port.{Port}
 use Rattle.table_image.specs.declared.row.Row.{Row}
 use Rattle.table_image.specs.declared.router.Router.{Router}
-
--- an element of the list passes
-any_has : {X : Type 0} (t : X → Bool) (xs : List X) → list_any t xs ≡ true → (k : ℕ) × (x : X) × At xs k x × (t x ≡ true)
-any_has t xs e =
-    let f = find_found t xs e in
-    let g = find_at t xs f.0 f.1 in
-    (g.0, f.0, g.1, g.2)
 
 module _ (i j : Internet) (ok : Passes i) (settled : IsSettled i) (m : IsMovedTo i j) where
   no_offer : (r k : ℕ) (router : Router) (row : Row) → At j.routers r router → At router.rows k row → is_direct row ≡ false

@@ -3,6 +3,7 @@
 #![tactic(auto)]
 
 mod laws;
+mod lookups;
 mod neighbours;
 mod offering;
 mod offers;

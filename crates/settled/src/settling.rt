@@ -35,10 +35,10 @@ impl fmt::Display for Settling {
     }
 }
 
-fn may_change(image: &Image, router: &Router, row: &Row) -> bool
+fn may_change(image: &Image, router: &Router, k: usize, row: &Row) -> bool
     ensures { result ≡ spec.may_change image.now router.now row.now }
 {
-    !row.state.is_usable() || (!row.is_direct() && has_nearer_offer(image, router, row))
+    !row.state.is_usable() || (!row.is_direct() && has_nearer_offer(image, router, k, row))
 }
 
 /// The number in a place of the part with this 0-based index.
@@ -55,7 +55,7 @@ fn first_row(image: &Image, r: usize, router: &Router) -> Option<usize>
     ensures low { IfSome result (λ k. k < length router.now.rows) }
 {
     for (k, row) in router.rows.as_slice().iter().enumerate() {
-        if may_change(image, router, row) {
+        if may_change(image, router, k, row) {
             return Some(k);
         }
     }

@@ -1,6 +1,7 @@
 use Rattle.std.proofs.Common.{◌∙◌, ◌++◌, ap, sym, arith}
 use Rattle.text.proofs.Going.{on_ok, put_then}
-use Rattle.pcapng.proofs.Laid.{frame_length, packet_laid}
+use Rattle.ethertalk.proofs.Values.{frame_length}
+use Rattle.pcapng.proofs.Laid.{packet_laid}
 use Rattle.pcapng.specs.Captures.{block_of, frame_of}
 use Rattle.pcapng.proofs.blocks.put_packet.Goals as goal
 
@@ -9,7 +10,7 @@ returns c =
     let t = c.args.text.now.items in
     let p = c.args.packet.now in
     let fits = c.recall_fits.ensures in
-    let t1 = put_then t _ _ c.in_ok-put_packet_front.ensures c.in_ok-put_frame.ensures in
+    let t1 = put_then t _ _ c.in_ok-put_packet_front.ensures c.in_ok-put_packet_frame.ensures in
     let t2 = put_then t _ _ t1 c.in_ok-put_filling.ensures in
     let t3 = put_then t _ _ t2 c.in_ok-put_options.ensures in
     let len = sym (frame_length (frame_of p c.args.bytes.now) fits.to fits.from) in

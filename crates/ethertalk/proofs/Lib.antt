@@ -1,0 +1,3 @@
+pub mod Shape
+pub mod Values
+pub mod Laid
