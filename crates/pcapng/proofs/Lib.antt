@@ -1,3 +1,4 @@
+pub mod Powers
 pub mod Laid
 pub mod Values
 pub mod Shape

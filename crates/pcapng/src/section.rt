@@ -1,0 +1,249 @@
+//! Sections: reading blocks, one after the other.
+
+ghost use Rattle.std.specs.Prelude.{◌≡◌, ◌≤◌, [], OnErr, Some, None, length, min};
+ghost use Rattle.at_base.specs.Reading.{Gives};
+ghost use Rattle.pcapng.specs.Reads as reads_spec;
+ghost use Rattle.pcapng.specs.Reads.{packed, told};
+ghost use Rattle.pcapng.specs.Sections as spec;
+ghost use Rattle.pcapng.specs.Sections.{max_block};
+
+use crate::block::{Block, Seen};
+use crate::fault::Fault;
+use crate::head::{Head, MAX_BLOCK, SECTION};
+use crate::interface::{Interface, Interfaces, MAX_INTERFACES};
+use crate::options::{Described, says_lost, with_options};
+use crate::order::{Order, run_of};
+use crate::times::time_of;
+use std::marker::Model;
+
+/// The types of the other blocks that are read.
+const INTERFACE: u32 = 1;
+
+const STATISTICS: u32 = 5;
+
+const PACKET: u32 = 6;
+
+/// What the blocks of a capture are read by: the order of the bytes of their section, and its
+/// interfaces.
+#[derive(Debug, Drop)]
+pub struct Section {
+    order: Option<Order>,
+    interfaces: Interfaces,
+}
+
+impl Model for Section {
+    ghost use Rattle.std.specs.Prelude.{◌≤◌, length};
+    ghost use Rattle.pcapng.specs.Sections.{Section as SectionValue, max_interfaces};
+
+    ghost Value = { SectionValue };
+
+    ghost view = { λ s. record { order = s.order; interfaces = s.interfaces } };
+
+    ghost invariant = { λ s. length s.interfaces ≤ max_interfaces };
+}
+
+fn interface_at(interfaces: &[Interface], index: u32) -> Result<Interface, Fault>
+    ensures { Gives (λ i. i) result (spec.interface_at interfaces.now index) }
+{
+    match interfaces.get(index as usize) {
+        Some(interface) => Ok(*interface),
+        None => Err(Fault::Interface),
+    }
+}
+
+fn time_on(interface: Interface, high: u32, low: u32) -> u64
+    ensures { result ≡ spec.time_on interface (spec.two_words high low) }
+{
+    let units = (u64::from(high) << 32) + u64::from(low);
+    time_of(units, interface.resolution, interface.offset)
+}
+
+/// Whether a section header's version can be read.
+fn check_section(order: Order, body: &[u8]) -> Result<(), Fault>
+    ensures { Gives (λ x. (spec.begins, record { order = Some order; interfaces = [] })) result
+        (spec.section_body order body.now) }
+{
+    let (_, rest) = run_of(body, 4)?;
+    let (major, rest) = order.two(rest)?;
+    let (_, _) = run_of(rest, 10)?;
+    if major == 1 {
+        Ok(())
+    } else {
+        Err(Fault::Version)
+    }
+}
+
+fn described(order: Order, body: &[u8]) -> Result<Described<'_>, Fault>
+    ensures { Gives reads_spec.described result (spec.described_in order body.now) }
+{
+    let (link, rest) = order.two(body)?;
+    let (_, rest) = run_of(rest, 6)?;
+    Ok(with_options(order, link == 1, rest))
+}
+
+fn packet<'a>(interfaces: &[Interface], order: Order, body: &'a [u8]) -> Result<Seen<'a>, Fault>
+    ensures { Gives packed result (spec.packet_in interfaces.now order body.now) }
+{
+    let (index, rest) = order.four(body)?;
+    let (high, rest) = order.four(rest)?;
+    let (low, rest) = order.four(rest)?;
+    let (captured, rest) = order.four(rest)?;
+    let (len, rest) = order.four(rest)?;
+    let interface = interface_at(interfaces, index)?;
+    let (bytes, rest) = run_of(rest, captured as usize)?;
+    Ok(Seen {
+        interface: index,
+        time: time_on(interface, high, low),
+        ethernet: interface.ethernet,
+        whole: captured >= len,
+        lost: says_lost(order, captured, rest),
+        bytes,
+    })
+}
+
+fn heartbeat(interfaces: &[Interface], order: Order, body: &[u8]) -> Result<(u32, u64), Fault>
+    ensures { Gives (λ x. x) result (spec.statistics_in interfaces.now order body.now) }
+{
+    let (index, rest) = order.four(body)?;
+    let (high, rest) = order.four(rest)?;
+    let (low, _) = order.four(rest)?;
+    let interface = interface_at(interfaces, index)?;
+    Ok((index, time_on(interface, high, low)))
+}
+
+/// What is between the two lengths of a block, from all its bytes, or from the first ones of a long
+/// one. Error: `Length` where the two lengths differ.
+fn between(head: Head, bytes: &[u8]) -> Result<&[u8], Fault>
+    requires there { length bytes.now ≡ min head.len max_block }
+    requires least { 12 ≤ head.len }
+    ensures { Gives (λ b. b.now) result (spec.between head bytes.now) }
+{
+    if head.len as usize > MAX_BLOCK {
+        return Ok(&bytes[8..]);
+    }
+    let (front, last) = bytes.split_at(head.len as usize - 4);
+    if head.order.four_in(last) != head.len {
+        return Err(Fault::Length);
+    }
+    Ok(&front[8..])
+}
+
+impl Section {
+    /// No section: what comes first has to be a section header.
+    pub fn new() -> Section
+        ensures { result ≡ record { order = None; interfaces = [] } }
+    {
+        Section {
+            order: None,
+            interfaces: Interfaces::new(),
+        }
+    }
+
+    /// The order of the bytes of its numbers, if it was begun.
+    pub fn order(&self) -> Option<Order>
+        ensures { result ≡ self.now.order }
+    {
+        self.order
+    }
+
+    /// The interfaces that were described, by number.
+    pub fn interfaces(&self) -> &[Interface]
+        ensures { result.now ≡ self.now.interfaces }
+    {
+        self.interfaces.as_slice()
+    }
+
+    fn begin(&mut self, order: Order)
+        ensures { self.new ≡ record { order = Some order; interfaces = [] } }
+    {
+        self.order = Some(order);
+        self.interfaces.clear();
+    }
+
+    /// A section begins. Errors: `Cut`, `Version`.
+    fn begin_by(&mut self, order: Order, body: &[u8]) -> Result<(), Fault>
+        ensures gives { Gives (λ x. (spec.begins, self.new)) result
+            (spec.section_body order body.now) }
+        ensures stays { OnErr result (self.new ≡ self.old) }
+    {
+        check_section(order, body)?;
+        self.begin(order);
+        Ok(())
+    }
+
+    /// One interface more. Error: `Interface`, if there are 256.
+    fn describe(&mut self, described: &Described) -> Result<(), Fault>
+        ensures gives { Gives (λ x. (spec.describes (reads_spec.described described.now), self.new))
+            result (spec.with_interface self.old (reads_spec.described described.now)) }
+        ensures stays { OnErr result (self.new ≡ self.old) }
+    {
+        if self.interfaces.as_slice().len() >= MAX_INTERFACES {
+            return Err(Fault::Interface);
+        }
+        self.interfaces.push(described.interface);
+        Ok(())
+    }
+
+    /// An interface is described. Errors: `Cut`, `Interface`.
+    fn describe_by<'a>(&mut self, order: Order, body: &'a [u8]) -> Result<Described<'a>, Fault>
+        ensures gives { Gives (λ d. (spec.describes (reads_spec.described d), self.new)) result
+            (spec.described_by self.old order body.now) }
+        ensures stays { OnErr result (self.new ≡ self.old) }
+    {
+        let described = described(order, body)?;
+        self.describe(&described)?;
+        Ok(described)
+    }
+
+    /// What a block says that changes nothing of the section.
+    fn other<'a>(&self, head: Head, body: &'a [u8]) -> Result<Block<'a>, Fault>
+        ensures { Gives told result (spec.other_in self.now.interfaces head body.now) }
+    {
+        let is_short = head.len as usize <= MAX_BLOCK;
+        if head.kind == PACKET && is_short {
+            let seen = packet(self.interfaces.as_slice(), head.order, body)?;
+            return Ok(Block::Packet(seen));
+        }
+        if head.kind == PACKET {
+            return Ok(Block::TooLong);
+        }
+        if head.kind == STATISTICS && is_short {
+            let (index, time) = heartbeat(self.interfaces.as_slice(), head.order, body)?;
+            return Ok(Block::Heartbeat(index, time));
+        }
+        Ok(Block::Other)
+    }
+
+    /// What a block says, from the bytes between its two lengths.
+    fn body<'a>(&mut self, head: Head, body: &'a [u8]) -> Result<Block<'a>, Fault>
+        ensures gives { Gives (λ b. (told b, self.new)) result
+            (spec.body_of self.old head body.now) }
+        ensures stays { OnErr result (self.new ≡ self.old) }
+    {
+        if head.kind == SECTION {
+            self.begin_by(head.order, body)?;
+            return Ok(Block::Section);
+        }
+        if head.kind == INTERFACE {
+            let described = self.describe_by(head.order, body)?;
+            return Ok(Block::Interface(described));
+        }
+        self.other(head, body)
+    }
+
+    /// What the block with this head says: the bytes are all of it, or of a block longer than 2,048
+    /// bytes the first 2,048.
+    ///
+    /// Errors: `Length` where its two lengths differ; `Cut` where it is too short for its fields;
+    /// `Version` and `Interface`. After an error the section is as before.
+    pub fn block<'a>(&mut self, head: Head, bytes: &'a [u8]) -> Result<Block<'a>, Fault>
+        requires there { length bytes.now ≡ min head.len max_block }
+        requires least { 12 ≤ head.len }
+        ensures gives { Gives (λ b. (told b, self.new)) result
+            (spec.block_of self.old head bytes.now) }
+        ensures stays { OnErr result (self.new ≡ self.old) }
+    {
+        let body = between(head, bytes)?;
+        self.body(head, body)
+    }
+}
