@@ -1,6 +1,6 @@
 //! The heads of blocks.
 
-ghost use Rattle.std.specs.Prelude.{◌≡◌, length};
+ghost use Rattle.std.specs.Prelude.{◌≡◌, ◌≤◌, ◌%◌, IfOk, length};
 ghost use Rattle.at_base.specs.Reading.{Gives};
 ghost use Rattle.pcapng.specs.Sections as spec;
 
@@ -76,7 +76,9 @@ impl Head {
     /// one without an order of bytes; `Length` where its length isn't a multiple of four or is less
     /// than 12.
     pub fn read(before: Option<Order>, bytes: &[u8]) -> Result<Head, Fault>
-        ensures { result ≡ spec.head_of before bytes.now }
+        ensures read { result ≡ spec.head_of before bytes.now }
+        ensures least { IfOk result (λ head. 12 ≤ head.len) }
+        ensures words { IfOk result (λ head. head.len % 4 ≡ 0) }
     {
         let (kind, rest) = run_of(bytes, 4)?;
         let (len, rest) = run_of(rest, 4)?;

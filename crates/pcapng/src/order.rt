@@ -40,7 +40,8 @@ impl Order {
         }
     }
 
-    pub(crate) fn four_in(self, front: &[u8]) -> u32
+    /// The number that four bytes are.
+    pub fn four_in(self, front: &[u8]) -> u32
         requires { length front.now ≡ 4 }
         ensures { result ≡ number_in self w32 front.now }
     {

@@ -1,0 +1,4 @@
+pub mod Growing
+pub mod Skipping
+pub mod Passed
+pub mod Leading

@@ -1,0 +1,38 @@
+use Rattle.std.proofs.Common.{◌∙◌, ◌++◌, None, ◌<◌, ◌≤◌, List, ap, arith, length, refl, sym, ℕ}
+use Rattle.std.specs.Int.{w32}
+use Rattle.capture_feed.proofs.Skipping.{agrees, differs, keeps_on, no_more, still_pending, within}
+use Rattle.capture_feed.specs.Stages.{past}
+use Rattle.pcapng.specs.Orders.{number_in}
+use Rattle.capture_feed.proofs.passing.pass_over.Goals as goal
+
+pub returns-then-len-lt-LAST_LEN-clause-passed : goal.returns-then-len-lt-LAST_LEN-clause-passed
+returns-then-len-lt-LAST_LEN-clause-passed c =
+    let low : length c.fill-rest.new.kept.items < 4 = omega (arith, c.if-len-lt-LAST_LEN.true) in
+    let f = c.fill-rest.ensures in (
+      within _ _ _ _ _ _ _ c.requires.keeps c.skip.ensures f.all f.most f.rest low,
+      (λ s. keeps_on _ _ _ _ _ _ _ c.requires.keeps c.skip.ensures f.all f.most f.rest low),
+      still_pending _ _ _ _ _ _ _ c.requires.keeps c.skip.ensures f.all f.most f.rest low,
+    )
+
+pub returns-then-four_in-before-clause-passed : goal.returns-then-four_in-before-clause-passed
+returns-then-four_in-before-clause-passed c =
+    let enough : 4 ≤ length c.fill-rest.new.kept.items = omega (arith, c.if-len-lt-LAST_LEN.false) in
+    let f = c.fill-rest.ensures in
+    let number = c.four_in.ensures ∙ ap (number_in c.args.before.order w32) c.as_slice.ensures.value in
+    differs _ _ _ _ _ _ _ c.requires.keeps c.skip.ensures f.all f.most f.rest enough c.four_in.result number c.if-four_in-before.true
+
+pub returns-clause-passed : goal.returns-clause-passed
+returns-clause-passed c =
+    let enough : 4 ≤ length c.fill-rest.new.kept.items = omega (arith, c.if-len-lt-LAST_LEN.false) in
+    let f = c.fill-rest.ensures in
+    let number = c.four_in.ensures ∙ ap (number_in c.args.before.order w32) c.as_slice.ensures.value in (
+      refl,
+      c.clear.ensures.items,
+      agrees _ _ _ _ _ _ _ c.requires.keeps c.skip.ensures f.all f.most f.rest enough c.four_in.result number c.if-four_in-before.false,
+    )
+
+pub returns-clause-fewer : goal.returns-clause-fewer
+returns-clause-fewer c =
+    let enough : 4 ≤ length c.fill-rest.new.kept.items = omega (arith, c.if-len-lt-LAST_LEN.false) in
+    let f = c.fill-rest.ensures in
+    no_more _ _ _ _ _ _ _ c.requires.keeps c.skip.ensures f.all f.most f.rest enough

@@ -1,0 +1,4 @@
+pub mod Stages
+pub mod Reads
+pub mod Skipping
+pub mod Feeds

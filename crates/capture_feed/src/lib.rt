@@ -1,0 +1,17 @@
+//! Captures in the pcapng format that come in pieces, block by block.
+#![tactic(auto)]
+
+mod feed;
+mod kept;
+mod listener;
+mod passing;
+mod reading;
+mod taking;
+
+pub use feed::Feed;
+pub use listener::Listen;
+pub use passing::Passing;
+
+// Types of the results.
+pub use at_base::Error;
+pub use pcapng::{Block, Fault};
