@@ -1,3 +1,4 @@
+pub mod Clocks
 pub mod Stages
 pub mod Reads
 pub mod Skipping

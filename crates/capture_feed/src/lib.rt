@@ -1,6 +1,7 @@
 //! Captures in the pcapng format that come in pieces, block by block.
 #![tactic(auto)]
 
+mod clock;
 mod feed;
 mod kept;
 mod listener;
@@ -8,6 +9,7 @@ mod passing;
 mod reading;
 mod taking;
 
+pub use clock::Clock;
 pub use feed::Feed;
 pub use listener::Listen;
 pub use passing::Passing;

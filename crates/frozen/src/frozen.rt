@@ -2,7 +2,7 @@
 
 ghost use Rattle.std.specs.Prelude.{◌≡◌, ◌<◌, ◌≤◌, ◌+◌, ◌⊎◌, ◌↔◌, [], Some, None, length};
 ghost use Rattle.std.specs.Prelude.{nat_lt, not, take, true, false};
-ghost use Rattle.std.specs.Prelude.{IfErr, IfOk, OnErr, OnOk};
+ghost use Rattle.std.specs.Prelude.{IfErr, IfOk, IsOkUnless, OnErr, OnOk};
 ghost use Rattle.std.specs.List.{AllByRecursion as Each};
 ghost use Rattle.audit.specs.Rules.{Passes};
 ghost use Rattle.cable_model.specs.Logs.{bytes_at};
@@ -102,9 +102,25 @@ impl<T: RouteTable> Frozen<T> {
         ensures refused { IfErr result (IsUnstarted image) }
     {
         match audit(&image) {
-            Verdict::No(fault) => return Err(Error::NotAudited(fault)),
-            Verdict::Yes(_) => {}
+            Verdict::No(fault) => Err(Error::NotAudited(fault)),
+            Verdict::Yes(_) => Frozen::over(alloc, image, limit),
         }
+    }
+
+    /// The same over the tables of an image that is known to pass the audit, so that it isn't judged
+    /// again. Error: `Memory`.
+    pub fn over(alloc: Global, image: Image, limit: u32) -> Result<Frozen<T>, Error>
+        requires passes { Passes image }
+        ensures started { IfOk result (HasBegun image limit) }
+        ensures fresh { IfOk result (λ run. AreFresh run.stations) }
+        ensures conserved { IfOk result IsEachOnce }
+        ensures hops { IfOk result HasHops }
+        ensures carried { IfOk result AreAllCarried }
+        ensures asked_for { IfOk result AreAllAskedFor }
+        ensures heard { IfOk result AreAllHeard }
+        ensures looked_up { IfOk result LooksUp }
+        ensures refused { IsOkUnless result Error.Memory }
+    {
         // Only the prover needs this read: it shows that the image is within its limits.
         let _cables = image.cables();
         let wiring = Wiring::of(alloc, &image, limit)?;

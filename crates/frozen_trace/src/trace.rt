@@ -94,10 +94,8 @@ fn trace_image<T: RouteTable, W: Write>(
     ensures empty { OnOk result (output.new.text.items ≡ []) }
 {
     let mut lines = Lines::new(alloc, &image)?;
-    let Ok(run) = Frozen::<T>::start(alloc, image, LIMIT) else {
-        return Err(Error::Memory);
-    };
-    let mut run = run;
+    // The image was judged: it isn't judged again.
+    let mut run = Frozen::<T>::over(alloc, image, LIMIT)?;
     match trace_run(alloc, &mut run, steps, &mut lines, output, refusals) {
         Ok(()) => Ok(Traced::Ran(run)),
         Err(error) => Err(error),

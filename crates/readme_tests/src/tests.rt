@@ -7,10 +7,12 @@ mod of_aarp;
 mod of_at_base;
 mod of_atp;
 mod of_cable_model;
+mod of_capture_feed;
 mod of_captures;
 mod of_ddp;
 mod of_echo;
 mod of_end_node;
+mod of_ethertalk;
 mod of_learning;
 mod of_nbp;
 mod of_pcapng;
@@ -29,10 +31,12 @@ enum Example {
     AtBase,
     Atp,
     CableModel,
+    CaptureFeed,
     Captures,
     Ddp,
     Echo,
     EndNode,
+    Ethertalk,
     Learning,
     Nbp,
     Pcapng,
@@ -49,10 +53,12 @@ fn holds(alloc: Global, example: Example) -> Result<bool, Error> {
         Example::AtBase => of_at_base::addresses_are_judged(alloc),
         Example::Atp => of_atp::a_request_and_its_repeat_are_answered(alloc),
         Example::CableModel => of_cable_model::nobody_hears_what_is_lost(alloc),
+        Example::CaptureFeed => of_capture_feed::a_cut_capture_has_its_packet(alloc),
         Example::Captures => of_captures::a_run_and_a_play_are_captured(alloc),
         Example::Ddp => of_ddp::a_ping_is_sent(alloc),
         Example::Echo => of_echo::a_request_is_answered_and_a_reply_is_not(alloc),
         Example::EndNode => of_end_node::one_datagram_is_made(alloc),
+        Example::Ethertalk => of_ethertalk::a_datagram_is_read_back(alloc),
         Example::Learning => of_learning::a_router_asks_its_neighbour(alloc),
         Example::Nbp => of_nbp::a_lookup_is_answered(alloc),
         Example::Pcapng => of_pcapng::a_capture_has_these_bytes(alloc),
@@ -104,7 +110,13 @@ fn stations_choose_addresses_send_and_hand_on(rt: HostRuntime) {
 
 #[test]
 fn cables_carry_and_lose_frames_and_are_captured(rt: HostRuntime) {
-    let examples = [Example::CableModel, Example::Pcapng, Example::Captures];
+    let examples = [
+        Example::CableModel,
+        Example::Ethertalk,
+        Example::Pcapng,
+        Example::CaptureFeed,
+        Example::Captures,
+    ];
     assert_eq!(rt; first_wrong(rt.alloc(), &examples), None);
 }
 
