@@ -4,7 +4,7 @@ use Rattle.std.proofs.Common.{append_assoc, inl, inr, nat_lt, if◌then◌else�
 use Rattle.std.proofs.lemmas.Bool.{cases_lt, le-ltb, lt-ltb, ltb-false, ltb-true}
 use Rattle.std.proofs.lemmas.List.{append-nil, drop_all, drop-append-le, length-append, take-append-le}
 use Rattle.capture_feed.specs.Reads.{IsFilled}
-use Rattle.capture_feed.specs.Stages.{Next, Stage, block_next, front, headed, passing_of, read_as, refuses, tells, waits}
+use Rattle.capture_feed.specs.Stages.{Next, Stage, block_next, front, headed, read_as, refuses, tells, waits}
 use Rattle.pcapng.specs.Sections.{Section, Told, block_of, head_of, max_block}
 use Rattle.pcapng.specs.declared.fault.Fault.{Fault}
 use Rattle.pcapng.specs.declared.head.Head.{Head}

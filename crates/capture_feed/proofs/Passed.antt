@@ -1,5 +1,5 @@
 -- What a feed passes over.
-use Rattle.std.proofs.Common.{◌≡◌, ℕ, List, ◌++◌, Option, Some, None, Ok, Err, ap, refl, sym, ◌∙◌}
+use Rattle.std.proofs.Common.{◌≡◌, ℕ, List, ◌++◌, Option, Some, None, Ok, ap, sym, ◌∙◌}
 use Rattle.std.specs.Borrow.{Bor}
 use Rattle.capture_feed.specs.Feeds.{HasPassed, IsPassed}
 use Rattle.capture_feed.specs.Reads.{left_of}

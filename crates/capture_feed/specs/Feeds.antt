@@ -5,7 +5,7 @@ use Rattle.at_base.specs.declared.error.Error.TheVariants.{BadCapture}
 use Rattle.pcapng.specs.Sections.{Section, Told}
 use Rattle.pcapng.specs.declared.fault.Fault.{Fault}
 use Rattle.capture_feed.specs.Skipping.{KeepsLast}
-use Rattle.capture_feed.specs.Stages.{Coming, Standing, block_next, coming, past, pending, refused, told, waits}
+use Rattle.capture_feed.specs.Stages.{Standing, block_next, coming, past, pending, refused, told, waits}
 use Rattle.capture_feed.specs.declared.passing.Passing.{Passing}
 
 -- A feed: where it stands, the bytes that were kept of what isn't whole, and the block that was refused, if one was.

@@ -1,5 +1,5 @@
 -- Captures, block by block: what comes next of the bytes that follow those that were read.
-use Rattle.std.specs.Prelude.{◌≡◌, ℕ, ◌+◌, ◌-◌, ◌==◌, List, [], Option, Some, None, Result, Ok, Err, drop, length, min, nat_lt, take}
+use Rattle.std.specs.Prelude.{ℕ, ◌+◌, ◌-◌, ◌==◌, List, [], Option, Some, None, Result, Ok, Err, drop, length, min, nat_lt, take}
 use Rattle.std.specs.Prelude.{if◌then◌else◌}
 use Rattle.std.specs.Int.{w32}
 use Rattle.pcapng.specs.Orders.{number_in}

@@ -1,6 +1,6 @@
 -- What cables did, they added to their transcript.
-use Rattle.std.proofs.Common.{List, None, Option, Some, [], inl, inr, sym, ℕ, ◌++◌, ◌∙◌, ◌∷◌, ◌≡◌, ap}
-use Rattle.std.proofs.lemmas.List.{append_assoc, append-nil}
+use Rattle.std.proofs.Common.{List, None, Option, Some, [], inl, inr, ℕ, ◌++◌, ◌∙◌, ◌∷◌, ◌≡◌, ap}
+use Rattle.std.proofs.lemmas.List.{append_assoc}
 use Rattle.at_base.specs.declared.address.Hw.{Hw}
 use Rattle.cable_model.specs.Logs.{Adds, Cabling, transcript}
 use Rattle.cable_model.specs.Outcomes.{Places}

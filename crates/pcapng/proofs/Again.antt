@@ -1,9 +1,7 @@
 -- What is printed is read back.
-use Rattle.std.proofs.Common.{◌≡◌, ℕ, ◌<◌, ◌≤◌, List, [], ◌++◌, length, Ok, ap, sym, ◌∙◌, arith}
-use Rattle.std.proofs.lemmas.List.{append-nil}
+use Rattle.std.proofs.Common.{◌≡◌, ℕ, ◌<◌, ◌≤◌, List, ◌++◌, length, Ok, arith}
 use Rattle.at_base.proofs.Laws.{follows_all, read_again}
 use Rattle.at_base.specs.Reading.{read}
-use Rattle.at_base.specs.Spelling.{bytes_of}
 use Rattle.ethertalk.proofs.Values.{frame_length}
 use Rattle.pcapng.proofs.Laid.{name_few}
 use Rattle.pcapng.proofs.Shape.{interface_lawful, packet_lawful, section_lawful}

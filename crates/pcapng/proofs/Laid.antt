@@ -6,7 +6,7 @@ use Rattle.std.specs.Fmt.{decimal}
 use Rattle.std.proofs.lemmas.Bool.{eq-eqb}
 use Rattle.std.proofs.lemmas.Bool.Decides.{eqb_tells}
 use Rattle.std.proofs.lemmas.Fmt.{length-decimal-le}
-use Rattle.std.proofs.lemmas.List.{append_assoc, append-nil, length-append}
+use Rattle.std.proofs.lemmas.List.{append_assoc, length-append}
 use Rattle.at_base.specs.Spelling.{bytes_of}
 use Rattle.pcapng.specs.Blocks.{PacketBlock, interface, interface_total, options, packet_block, packet_total, wrong_captured}
 use Rattle.pcapng.specs.Captures.{cable_name}

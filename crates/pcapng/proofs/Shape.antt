@@ -1,8 +1,8 @@
 -- The formats are lawful: each projection gives its part.
-use Rattle.std.proofs.Common.{◌≡◌, ℕ, ◌^◌, ◌<◌, ◌≤◌, ◌==◌, Bool, true, false, cond, eqb, ltb, List, length, Option}
-use Rattle.std.proofs.Common.{None, Some, refl, sym, ap, subst, ◌∙◌, arith}
-use Rattle.std.proofs.lemmas.Bool.{eqb-true, ltb-false}
-use Rattle.at_base.proofs.Fields.{is_right, not_wrong}
+use Rattle.std.proofs.Common.{◌≡◌, ℕ, ◌^◌, ◌<◌, ◌==◌, Bool, true, false, eqb, List, length, Option}
+use Rattle.std.proofs.Common.{None, refl, sym, ap, subst, ◌∙◌, arith}
+use Rattle.std.proofs.lemmas.Bool.{eqb-true}
+use Rattle.at_base.proofs.Fields.{is_right}
 use Rattle.at_base.proofs.Texts.{same_bytes_is}
 use Rattle.at_base.specs.Lawful.{IsLawful}
 use Rattle.at_base.specs.Spelling.{IsValue}

@@ -1,8 +1,7 @@
 -- The options at the end of a block. (Internet draft draft-ietf-opsawg-pcapng)
 use Rattle.std.specs.Prelude.{ℕ, zero, suc, Bool, ◌==◌, ◌&&◌, List, [], ◌∷◌, Option, Some, None, Result, Ok, Err}
-use Rattle.std.specs.Prelude.{codes, drop, fold, length, slice_index, if◌then◌else◌}
+use Rattle.std.specs.Prelude.{codes, drop, length, slice_index, if◌then◌else◌}
 use Rattle.std.specs.Int.{w16, w64}
-use Rattle.std.specs.List.{list_any}
 use Rattle.at_base.specs.Reading.{◌>>=◌, bytes_at}
 use Rattle.at_base.specs.Text.{same_bytes}
 use Rattle.pcapng.specs.Fields.{gap}

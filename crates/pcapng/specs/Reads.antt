@@ -1,5 +1,4 @@
 -- What the values that borrow a block's bytes stand for.
-use Rattle.std.specs.Prelude.{List, ℕ}
 use Rattle.std.specs.Option.{option_copied}
 use Rattle.pcapng.specs.Options as options
 use Rattle.pcapng.specs.Sections.{Packed, Told, begins, beats, describes, packs, passes, skips}

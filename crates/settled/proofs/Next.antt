@@ -1,6 +1,6 @@
 -- Next routers offer the ranges of the rows that point at them, in an internet that passes and is settled.
 use Rattle.std.proofs.Common.{◌≡◌, ℕ, zero, suc, ◌+◌, ◌<◌, ◌≤◌, inl, inr, Bool, true, false, not, ◌&&◌, Some, refl, sym, ap, ◌∙◌, subst}
-use Rattle.std.proofs.Common.{arith, slice_get, ◌==◌, List, is_some, eqb-true, eq-eqb, true≢false}
+use Rattle.std.proofs.Common.{arith, slice_get, ◌==◌, is_some, eqb-true, eq-eqb, true≢false}
 use Rattle.std.specs.List.{list_any}
 use Rattle.std.proofs.lemmas.Bool.{and_parts, and_from, or_parts, not-false, cases_Bool, cases_lt, lt-ltb}
 use Rattle.at_base.specs.declared.error.Place.TheVariants as place

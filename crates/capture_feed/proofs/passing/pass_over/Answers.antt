@@ -1,7 +1,6 @@
-use Rattle.std.proofs.Common.{◌∙◌, ◌++◌, None, ◌<◌, ◌≤◌, List, ap, arith, length, refl, sym, ℕ}
+use Rattle.std.proofs.Common.{◌∙◌, ◌<◌, ◌≤◌, ap, arith, length, refl}
 use Rattle.std.specs.Int.{w32}
 use Rattle.capture_feed.proofs.Skipping.{agrees, differs, keeps_on, no_more, still_pending, within}
-use Rattle.capture_feed.specs.Stages.{past}
 use Rattle.pcapng.specs.Orders.{number_in}
 use Rattle.capture_feed.proofs.passing.pass_over.Goals as goal
 

@@ -1,8 +1,6 @@
 -- What a neighbour sends is read back, and heard as the law of a step says.
-use Rattle.std.proofs.Common.{◌≡◌, Some, None, ap, sym, subst, ◌∙◌}
+use Rattle.std.proofs.Common.{ap, sym, subst, ◌∙◌}
 use Rattle.rtmp.specs.Data.{routing_in}
-use Rattle.rtmp.specs.Sending.{IsPacket, packet_numbered}
-use Rattle.rtmp.specs.declared.request.Horizon.TheVariants.{Split}
 use Rattle.settled.proofs.Exchange.{data_heard}
 use Rattle.settled.proofs.Sent.{on_ok, sent_in, some_sent}
 use Rattle.settled.specs.Exchange.{AreMovedRows}

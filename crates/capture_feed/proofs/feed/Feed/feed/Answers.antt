@@ -1,4 +1,4 @@
-use Rattle.std.proofs.Common.{◌++◌, None, Ok, subst, sym, ℕ}
+use Rattle.std.proofs.Common.{◌++◌, Ok, subst, sym, ℕ}
 use Rattle.capture_feed.proofs.Leading.{underway_ends, underway_more}
 use Rattle.capture_feed.proofs.feed.Feed.feed.Goals as goal
 use Rattle.capture_feed.specs.Feeds.{IsFed, IsStep}

@@ -1,4 +1,4 @@
-use Rattle.std.proofs.Common.{◌∙◌, ◌++◌, List, Option, ap, sym, ℕ}
+use Rattle.std.proofs.Common.{◌∙◌, ◌++◌, Option, ap, sym}
 use Rattle.capture_feed.proofs.Passed.{passed_by_none, passed_on, standing}
 use Rattle.capture_feed.specs.Feeds.{Fed}
 use Rattle.capture_feed.specs.declared.passing.Passing.{Passing}
