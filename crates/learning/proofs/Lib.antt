@@ -1,4 +1,3 @@
 pub mod Gone
 pub mod Named
 pub mod Asked
-pub mod Parts

@@ -1,16 +1,15 @@
 -- The networks of entries, as a loop over the entries finds them.
-use Rattle.std.proofs.Common.{◌≡◌, ◌∙◌, ℕ, ◌+◌, ◌<◌, Bool, true, false, not, ◌||◌, ◌==◌, List, [], ◌∷◌, ◌++◌, length}
-use Rattle.std.proofs.Common.{filter, fold, take, drop, get_or, refl, sym, ap, subst}
-use Rattle.std.specs.List.{list_any}
+use Rattle.std.proofs.Common.{◌≡◌, ◌∙◌, ℕ, ◌+◌, ◌<◌, ◌≤◌, Bool, true, false, not, ◌||◌, ◌==◌, List, [], ◌∷◌, ◌++◌, length}
+use Rattle.std.proofs.Common.{filter, fold, take, drop, get_or, refl, sym, ap, subst, arith}
+use Rattle.std.specs.List.{list_all, list_any}
 use Rattle.std.proofs.lemmas.List.{drop_more, take_more}
 use Rattle.std.proofs.lemmas.List.Elements.{filter_agree}
 use Rattle.std.proofs.lemmas.List.Folds.{list_any-append}
-use Rattle.std.proofs.lemmas.Bool.{eqb-true, eq-eqb, ne_eqb}
+use Rattle.std.proofs.lemmas.Bool.{and_parts, eqb-true, eq-eqb, ne_eqb}
 use Rattle.zip_zones.specs.declared.entry.Entry.{Entry}
 use Rattle.zip_zones.specs.Answers.{networks_named}
 use Rattle.zip_zones.specs.Zones.{Known}
 use Rattle.learning.proofs.Gone.{filter_twice}
-use Rattle.learning.proofs.Parts.{InPart, next_part}
 
 -- none of the entries before is of the network
 abbrev is_new : List Entry → ℕ → Bool
@@ -117,24 +116,24 @@ left_new learn entries i e table after whole lt is came learned before =
     ap (λ (known : List Known). fold learn known (named_after (take (i + 1) entries) (drop (i + 1) entries))) learned
     ∙ ap (fold learn table) (one_less entries i e lt is came) ∙ before
 
--- ---- tables after only the first lists were learned
+-- ---- entries of one network
 
--- at an index, the networks before it were learned
-abbrev pub PartOf : (List Known → ℕ → List Known) → List Entry → ℕ → List Known → List Known → Type 0
-PartOf learn entries i old now = InPart learn (networks_named entries) (named_after (take i entries) (drop i entries)) old now
+-- where all entries are of one network, no other is named
+none_named : (n : ℕ) (entries : List Entry) → list_all (λ e. e.net == n) entries ≡ true
+    → filter (λ net. not (net == n)) (networks_named entries) ≡ []
+none_named n [] all = refl
+none_named n (e ∷ entries) all =
+    let parts = and_parts (e.net == n) (list_all (λ e. e.net == n) entries) all in
+    let rest = none_named n entries parts.1 in
+    let same = eqb-true e.net n parts.0 in
+    rw parts.0 (subst (λ k. filter (λ net. not (net == n)) (filter (λ net. not (net == k)) (networks_named entries)) ≡ []) (sym same) (rw rest refl))
 
-pub part_first : (learn : List Known → ℕ → List Known) (entries : List Entry) (old : List Known) → PartOf learn entries 0 old old
-part_first learn entries old = ([], sym (named_first entries), refl)
-
-pub part_again : (learn : List Known → ℕ → List Known) (entries : List Entry) (i : ℕ) (e : Entry) (old now : List Known)
-    → i < length entries → e ≡ get_or entries i e → list_any (λ x. x.net == e.net) (take i entries) ≡ true
-    → PartOf learn entries i old now → PartOf learn entries (i + 1) old now
-part_again learn entries i e old now lt is came part =
-    subst (λ left. InPart learn (networks_named entries) left old now) (sym (same_left entries i e lt is came)) part
-
-pub part_new : (learn : List Known → ℕ → List Known) (entries : List Entry) (i : ℕ) (e : Entry) (old now new : List Known)
-    → i < length entries → e ≡ get_or entries i e → list_any (λ x. x.net == e.net) (take i entries) ≡ false
-    → new ≡ learn now e.net → PartOf learn entries i old now → PartOf learn entries (i + 1) old new
-part_new learn entries i e old now new lt is came learned part =
-    next_part learn (networks_named entries) e.net (named_after (take (i + 1) entries) (drop (i + 1) entries)) old now new
-    (subst (λ left. InPart learn (networks_named entries) left old now) (sym (one_less entries i e lt is came)) part) learned
+-- and only theirs is
+pub one_named : (n : ℕ) (entries : List Entry) → 1 ≤ length entries → list_all (λ e. e.net == n) entries ≡ true
+    → networks_named entries ≡ n ∷ []
+one_named n [] some all = absurd (omega (arith, some))
+one_named n (e ∷ entries) some all =
+    let parts = and_parts (e.net == n) (list_all (λ e. e.net == n) entries) all in
+    let same = eqb-true e.net n parts.0 in
+    subst (λ k. e.net ∷ filter (λ net. not (net == k)) (networks_named entries) ≡ n ∷ []) (sym same)
+    (rw (none_named n entries parts.1) (ap (λ (k : ℕ). k ∷ []) same))

@@ -2,5 +2,4 @@ pub mod Heard
 pub mod Forgetting
 pub mod Queries
 pub mod Examples
-pub mod Partly
 pub mod LeftOut

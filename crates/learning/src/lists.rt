@@ -1,9 +1,8 @@
 //! Learning from replies with complete lists.
 
-ghost use Rattle.std.specs.Prelude.{◌≡◌, ◌==◌, fold, length, if◌then◌else◌};
-ghost use Rattle.std.specs.Prelude.{false, None, IfOk, OnErr, OnOk, IsOk, IsOkUnless};
-ghost use Rattle.std.specs.List.{list_any};
-ghost use Rattle.learning.specs.Partly.{IsLearnedInPart};
+ghost use Rattle.std.specs.Prelude.{◌≡◌, ◌==◌, ◌∷◌, [], fold, length, if◌then◌else◌};
+ghost use Rattle.std.specs.Prelude.{false, None, IfOk, IfSome, OnErr, OnOk, IsOk, IsOkUnless};
+ghost use Rattle.std.specs.List.{list_all, list_any};
 ghost use Rattle.zip_zones.specs.Answers as spec;
 ghost use Rattle.zip_zones.specs.Answers.{after_list, is_taken, networks_named, range_heard};
 ghost use Rattle.zip_zones.specs.Zones.{set_list, with_known};
@@ -90,7 +89,8 @@ fn learn_list<T: RouteTable>(
     }
 }
 
-/// Learns the list of each network of these entries, in order of first appearance. Error: `Memory`.
+/// Learns the list of each network of these entries, in order of first appearance. Error: `Memory`;
+/// the first lists may have been learned then.
 fn learn_each<T: RouteTable>(
     zones: &mut ZoneTable,
     routes: &T,
@@ -98,8 +98,6 @@ fn learn_each<T: RouteTable>(
 ) -> Result<(), Error>
     ensures ok { OnOk result (zones.new ≡ fold (after_list (T.rows routes.now) entries.now)
         zones.old (networks_named entries.now)) }
-    ensures in_part { OnErr result (IsLearnedInPart (after_list (T.rows routes.now) entries.now)
-        (networks_named entries.now) zones.old zones.new) }
     ensures refused { IsOkUnless result Error.Memory }
 {
     for (index, entry) in entries.iter().enumerate() {
@@ -110,7 +108,24 @@ fn learn_each<T: RouteTable>(
     Ok(())
 }
 
-/// Learns the complete lists of a reply. Error: `Memory`.
+/// Whether all entries are of the network.
+fn are_of(entries: &[Entry], net: u16) -> bool
+    ensures { result ≡ list_all (λ e. e.net == net) entries.now }
+{
+    entries.iter().all(|entry| entry.net == net)
+}
+
+/// The network of all entries, if they are of one.
+fn only_network(entries: &[Entry]) -> Option<u16>
+    ensures { IfSome result (λ net. networks_named entries.now ≡ net ∷ []) }
+{
+    match entries {
+        [first, ..] if are_of(entries, first.net) => Some(first.net),
+        _ => None,
+    }
+}
+
+/// Learns the complete lists of a reply. Error: `Memory`; nothing changes then.
 pub(crate) fn learn_lists<T: RouteTable>(
     zones: &mut ZoneTable,
     routes: &T,
@@ -118,11 +133,17 @@ pub(crate) fn learn_lists<T: RouteTable>(
 ) -> Result<(), Error>
     ensures ok { OnOk result (zones.new ≡ fold (after_list (T.rows routes.now) entries.entry)
         zones.old (networks_named entries.entry)) }
-    ensures in_part { OnErr result (IsLearnedInPart (after_list (T.rows routes.now) entries.entry)
-        (networks_named entries.entry) zones.old zones.new) }
+    ensures stays { OnErr result (zones.new ≡ zones.old) }
     ensures refused { IsOkUnless result Error.Memory }
 {
     let alloc = allocator_of(zones)?;
     let all = all_of(alloc, entries)?;
-    learn_each(zones, routes, all.as_slice())
+    if let Some(net) = only_network(all.as_slice()) {
+        return learn_list(zones, routes, all.as_slice(), net);
+    }
+    // A list may be refused after others were learned, so they go to a copy.
+    let mut next = zones.copy()?;
+    learn_each(&mut next, routes, all.as_slice())?;
+    *zones = next;
+    Ok(())
 }

@@ -1,8 +1,9 @@
 //! Learning from packets of routing data.
 
-ghost use Rattle.std.specs.Prelude.{◌≡◌, false, OnErr, OnOk, IsOk, IsOkUnless};
+ghost use Rattle.std.specs.Prelude.{◌≡◌, ◌<◌, false, true, length, OnErr, OnOk, IsOk, IsOkUnless};
+ghost use Rattle.at_base.specs.Limits.{max_rows};
 ghost use Rattle.rtmp.specs.Data.{tuples_heard};
-ghost use Rattle.rtmp.specs.Routes.{IsHeardInPart};
+ghost use Rattle.rtmp.specs.Routes.{brings_new};
 ghost use Rattle.learning.specs.Heard.{is_from_neighbour, routes_after};
 
 use at_base::{Error, Range};
@@ -23,7 +24,7 @@ fn is_neighbours(range: Range, packet: &DataPacket<'_>) -> bool
 /// another range.
 ///
 /// Inside AppleTalk, the chapter on RTMP; which packets are ignored is this project's own. Error:
-/// `Memory`; only the tuples before it were handled then.
+/// `Memory`, if a row is to be added; nothing changes then.
 pub fn learn_routes<T: RouteTable>(
     routes: &mut T,
     range: Range,
@@ -35,8 +36,9 @@ pub fn learn_routes<T: RouteTable>(
         ≡ routes_after nonextended range port packet.now (T.rows routes.old)) }
     // A packet that is ignored needs no memory.
     ensures ignored { is_from_neighbour range packet.now ≡ false → IsOk result }
-    ensures in_part { OnErr result (IsHeardInPart packet.now.router port
-        (tuples_heard nonextended packet.now.written) (T.rows routes.old) (T.rows routes.new)) }
+    ensures stays { OnErr result (T.rows routes.new ≡ T.rows routes.old) }
+    ensures due { OnErr result ((length (T.rows routes.old) < max_rows)
+        × (brings_new (tuples_heard nonextended packet.now.written) (T.rows routes.old) ≡ true)) }
     ensures refused { IsOkUnless result Error.Memory }
 {
     if !is_neighbours(range, packet) {

@@ -3,7 +3,6 @@
 ghost use Rattle.std.specs.Prelude.{◌≡◌, false, true, fold, if◌then◌else◌};
 ghost use Rattle.std.specs.Prelude.{OnErr, OnOk, IsOk, IsOkUnless};
 ghost use Rattle.learning.specs.LeftOut.{is_left_out, is_reply};
-ghost use Rattle.learning.specs.Partly.{IsLearnedInPart, IsReplyInPart};
 ghost use Rattle.zip_zones.specs.Answers.{after_name, after_reply, is_taken, range_heard};
 ghost use Rattle.zip_zones.specs.Zones.{heard};
 
@@ -59,7 +58,8 @@ fn learn_name<T: RouteTable>(
     }
 }
 
-/// Learns the names of an extended reply, one by one. Error: `Memory`.
+/// Learns the names of an extended reply, one by one. Error: `Memory`; the first ones may have been
+/// learned then.
 fn learn_names<T: RouteTable>(
     zones: &mut ZoneTable,
     routes: &T,
@@ -68,13 +68,30 @@ fn learn_names<T: RouteTable>(
 ) -> Result<(), Error>
     ensures ok { OnOk result
         (zones.new ≡ fold (after_name (T.rows routes.now) total) zones.old entries.entry) }
-    ensures in_part { OnErr result (IsLearnedInPart (after_name (T.rows routes.now) total)
-        entries.entry zones.old zones.new) }
     ensures refused { IsOkUnless result Error.Memory }
 {
     for entry in entries {
         learn_name(zones, routes, total, &entry)?;
     }
+    Ok(())
+}
+
+/// Learns the names of an extended reply. Error: `Memory`; nothing changes then.
+fn learn_whole<T: RouteTable>(
+    zones: &mut ZoneTable,
+    routes: &T,
+    total: u8,
+    entries: Entries<'_>,
+) -> Result<(), Error>
+    ensures ok { OnOk result
+        (zones.new ≡ fold (after_name (T.rows routes.now) total) zones.old entries.entry) }
+    ensures stays { OnErr result (zones.new ≡ zones.old) }
+    ensures refused { IsOkUnless result Error.Memory }
+{
+    // A name may be refused after others were learned, so they go to a copy.
+    let mut next = zones.copy()?;
+    learn_names(&mut next, routes, total, entries)?;
+    *zones = next;
     Ok(())
 }
 
@@ -86,7 +103,7 @@ fn learn_names<T: RouteTable>(
 /// zone table has no room, or whose range overlaps another range of it, are left out.
 ///
 /// Inside AppleTalk, the chapter on ZIP; for which rows replies are accepted, and what is left out,
-/// is this project's own. Error: `Memory`; only the first names or lists were learned then.
+/// is this project's own. Error: `Memory`; nothing changes then.
 pub fn learn_zones<T: RouteTable>(
     zones: &mut ZoneTable,
     routes: &T,
@@ -95,13 +112,12 @@ pub fn learn_zones<T: RouteTable>(
     ensures ok { OnOk result (zones.new ≡ after_reply (T.rows routes.now) packet.entry zones.old) }
     // A packet that isn't a reply needs no memory.
     ensures ignored { is_reply packet.entry ≡ false → IsOk result }
-    ensures in_part { OnErr result
-        (IsReplyInPart (T.rows routes.now) packet.entry zones.old zones.new) }
+    ensures stays { OnErr result (zones.new ≡ zones.old) }
     ensures refused { IsOkUnless result Error.Memory }
 {
     match packet {
         Packet::Reply(_, entries) => learn_lists(zones, routes, entries),
-        Packet::ExtendedReply(total, entries) => learn_names(zones, routes, total, entries),
+        Packet::ExtendedReply(total, entries) => learn_whole(zones, routes, total, entries),
         _ => Ok(()),
     }
 }

@@ -1,6 +1,6 @@
 pub mod Seated
+pub mod Learnt
 pub mod Settled
 pub mod Aging
-pub mod Learned
 pub mod Short
 pub mod Few

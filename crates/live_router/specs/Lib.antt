@@ -1,3 +1,2 @@
 pub mod Living
 pub mod Ticking
-pub mod Replies

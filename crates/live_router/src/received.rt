@@ -10,8 +10,7 @@ ghost use Rattle.station.specs.Resolution.{packet_at};
 ghost use Rattle.station.specs.Values.{datagram_at};
 ghost use Rattle.station.specs.declared.heard.Kind.TheVariants.{Aarp, Ddp};
 
-use crate::tables::take_tables;
-use crate::taught::tables_taught;
+use crate::taught::teach_ended;
 use at_base::Error;
 use ddp::View;
 use router::Router;
@@ -40,11 +39,10 @@ fn hear_datagram<T: RouteTable>(
     ensures outputs_stay { OnErr result (outputs.new.items ≡ outputs.old.items) }
 {
     let reaction = router.react(heard, view)?;
-    // The new tables are made first: an error then leaves the router unchanged.
-    let tables = tables_taught(router, reaction.ended, view)?;
-    router.follow(reaction, outputs)?;
-    take_tables(router, tables);
-    Ok(())
+    // Room for the outputs is made first: once the router has learned, nothing is refused.
+    outputs.room(reaction.count())?;
+    teach_ended(router, reaction.ended, view)?;
+    router.follow(reaction, outputs)
 }
 
 /// Receives a frame on one of the ports: the router handles it, and learns from it. Error:

@@ -7,6 +7,7 @@ mod hand;
 mod handled;
 mod hearing;
 mod laws;
+mod learnt;
 mod lists;
 mod names;
 mod receive;

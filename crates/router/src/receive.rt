@@ -52,13 +52,16 @@ pub struct Reaction {
     pub ended: Option<u8>,
 }
 
-/// The number of outputs: the one for the datagram itself, if any, and those that the router makes.
-fn number_of(fate: &Option<Output>, made: &[Output]) -> usize
-    ensures { result ≡ length (option_to_list fate.now ++ made.now) }
-{
-    match fate {
-        Some(_) => 1 + made.len(),
-        None => made.len(),
+impl Reaction {
+    /// The number of its outputs: the one for the datagram itself, if any, and those that the router
+    /// makes.
+    pub fn count(&self) -> usize
+        ensures { result ≡ length (option_to_list self.now.fate ++ self.now.made.items) }
+    {
+        match self.fate {
+            Some(_) => 1 + self.made.len(),
+            None => self.made.len(),
+        }
     }
 }
 
@@ -120,8 +123,8 @@ impl<T: RouteTable> Router<T> {
     }
 
     /// Carries out a reaction: adds its outputs, and holds its requests. The caller ensures that
-    /// the outputs are lawful, as those of `react` are. Error: `Memory`; neither the router nor the
-    /// outputs change then.
+    /// the outputs are lawful, as those of `react` are. Error: `Memory`, where there is no room for
+    /// the outputs; neither the router nor the outputs change then.
     pub fn follow(&mut self, reaction: Reaction, outputs: &mut Outputs) -> Result<(), Error>
         requires { AreLawful (length self.old.ports)
             (option_to_list reaction.fate ++ reaction.made.items) }
@@ -132,18 +135,19 @@ impl<T: RouteTable> Router<T> {
           requests = unwrap_or reaction.responder self.old.requests;
         }) }
         ensures ports_stay { self.new.ports ≡ self.old.ports }
-        ensures silent { option_to_list reaction.fate ++ reaction.made.items ≡ [] → IsOk result }
+        ensures sure { length (option_to_list reaction.fate ++ reaction.made.items)
+            ≤ outputs.old.spare → IsOk result }
         ensures refused { IsOkUnless result Error.Memory }
         ensures station_stays { OnErr result (self.new ≡ self.old) }
         ensures outputs_stay { OnErr result (outputs.new.items ≡ outputs.old.items) }
     {
+        outputs.room(reaction.count())?;
         let Reaction {
             fate,
             made,
             responder,
             ..
         } = reaction;
-        outputs.room(number_of(&fate, made.as_slice()))?;
         put_out(outputs, fate, made);
         self.keep(responder);
         Ok(())

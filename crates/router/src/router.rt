@@ -20,7 +20,7 @@ use std::marker::Model;
 use zip_zones::ZoneTable;
 
 /// A router: its ports on cables, its routing table and its zone table. Receiving frames doesn't
-/// change the tables; only the setters do.
+/// change the tables; only the setters and `learn_routes` and `learn_zones` do.
 ///
 /// Inside AppleTalk, the chapters on DDP, RTMP and ZIP.
 #[derive(Drop)]

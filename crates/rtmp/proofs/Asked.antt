@@ -1,5 +1,5 @@
 -- Requests for routing data: their format is lawful, and what is written is read back.
-use Rattle.std.proofs.Common.{◌≡◌, ℕ, zero, suc, ◌≤◌, ◌<◌, ltb, List, [], ◌∷◌, ◌++◌, None, refl, arith}
+use Rattle.std.proofs.Common.{◌≡◌, ℕ, zero, suc, ◌≤◌, ltb, List, [], ◌∷◌, ◌++◌, None, refl, arith}
 use Rattle.std.proofs.lemmas.Bool.{ltb-false}
 use Rattle.at_base.specs.declared.error.Field.TheVariants.{Function}
 use Rattle.at_base.specs.Lawful.{IsLawful}

@@ -5,7 +5,7 @@ pub mod FirstTuple
 pub mod Sent
 pub mod Spelled
 pub mod Asked
-mod Parts
+mod Brought
 pub mod Scan
 pub mod Numbering
 pub mod Spoiled

@@ -1,5 +1,5 @@
 -- Requests for routing data. (Inside AppleTalk, the chapter on RTMP)
-use Rattle.std.specs.Prelude.{ℕ, true, ◌==◌, List, [], ◌∷◌, Option, if◌then◌else◌}
+use Rattle.std.specs.Prelude.{ℕ, true, ◌==◌, List, Option, if◌then◌else◌}
 use Rattle.at_base.specs.declared.error.Field.TheVariants.{Function}
 use Rattle.at_base.specs.declared.error.Error.{Error}
 use Rattle.at_base.specs.Packets.{packets, within}

@@ -1,6 +1,6 @@
 -- Routing tables: finite maps from ranges to rows, and the effects of messages and of aging on them.
 -- (Inside AppleTalk, the chapter on RTMP)
-use Rattle.std.specs.Prelude.{◌≡◌, ℕ, ◌+◌, ◌++◌, ◌∷◌, ◌<◌, ◌≤◌, Bool, true, false, not, ◌&&◌, ◌||◌, ◌==◌, IsTrue, List}
+use Rattle.std.specs.Prelude.{ℕ, ◌+◌, ◌≤◌, Bool, true, false, not, ◌&&◌, ◌||◌, ◌==◌, IsTrue, List}
 use Rattle.std.specs.Prelude.{length, map, filter, fold, find}
 use Rattle.std.specs.Prelude.{Option, Some, None, nat_le, if◌then◌else◌}
 use Rattle.std.specs.List.{list_all, list_any}
@@ -36,6 +36,11 @@ pub record IsRouteMap (rows : List Row) : Type 0 where
   pub apart : IsTrue (are_apart rows)
   pub each : IsTrue (list_all is_row rows)
   pub few : length rows ≤ max_rows
+
+-- A table: its rows, and whether there is room for as many as it may have.
+pub record Tabled : Type 0 where
+  pub rows : List Row
+  pub has_room : Bool
 
 -- the row is direct: it has no next router
 abbrev pub is_direct : Row → Bool
@@ -108,18 +113,9 @@ heard_within range t s port rows =
 abbrev pub heard_packet : Addr → ℕ → List Tuple → List Row → List Row
 heard_packet s port tuples rows = fold (λ table t. heard_within t.range t.distance s port table) rows tuples
 
--- The table adds a row for the tuple, and has room for it.
-abbrev pub IsToAdd : Addr → ℕ → Tuple → List Row → Type 0
-IsToAdd s port t rows = ((heard t.range t.distance s port rows).1 ≡ Added) × (length rows < max_rows)
-
--- The map after only the first of these tuples were handled, where the next one is to be added.
-pub record IsHeardInPart (s : Addr) (port : ℕ) (tuples : List Tuple) (rows now : List Row) : Type 0 where
-  pub first : List Tuple
-  pub next : Tuple
-  pub left : List Tuple
-  pub whole : tuples ≡ first ++ next ∷ left
-  pub is : now ≡ heard_packet s port first rows
-  pub due : IsToAdd s port next now
+-- one of the tuples has a range that is added to these rows
+abbrev pub brings_new : List Tuple → List Row → Bool
+brings_new tuples rows = list_any (λ t. is_new t.range t.distance rows) tuples
 
 -- the next state of a row that ages
 abbrev pub older : State → State

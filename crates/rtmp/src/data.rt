@@ -154,6 +154,8 @@ impl<'a> Iterator for Tuples<'a> {
 
     ghost remaining = { λ left. at_most (length left) };
 
+    // Put into its callers, where what is made of nonextended tuples is known.
+    #[inline(always)]
     fn next(&mut self) -> Option<Tuple> {
         while let Some(written) = self.written.next() {
             if let Some(tuple) = any_of(&written).heard(self.nonextended) {

@@ -2,7 +2,8 @@
 //! Rows are numbered when a router is lost, and stay so until a row goes by another router.
 
 ghost use Rattle.std.specs.Prelude.{◌≡◌, ◌≤◌, ◌<◌, ◌+◌, ◌%◌, ◌⊎◌, [], true, length, map, slice_set};
-ghost use Rattle.std.specs.Prelude.{vec_capacity, vec_len, OnOk, IsOkUnless};
+ghost use Rattle.std.specs.Prelude.{vec_capacity, vec_len, OnOk, IsOk, IsOkUnless};
+ghost use Rattle.at_base.specs.Limits.{max_rows};
 ghost use Rattle.at_base.specs.Spans.{AreApart};
 ghost use Rattle.rtmp.specs.Indexing as spec;
 ghost use Rattle.rtmp.specs.Indexing.{numbers_of};
@@ -10,6 +11,7 @@ ghost use Rattle.rtmp.specs.Routes.{IsRouteMap, poisoned};
 
 use crate::row::Row;
 use crate::update::{Update, update_all, updated_row};
+use at_base::limits::MAX_ROWS;
 use at_base::{Addr, Error, index_at, numbers_between, put_number};
 
 /// The least number that a row through this router can have; the next router's is 65,536 more.
@@ -64,12 +66,32 @@ pub(crate) fn make_room(rows: &mut Vec<Row>, numbers: &mut Vec<u64>) -> Result<(
     ensures numbers { numbers.new.items ≡ [] }
     ensures room { OnOk result (vec_len rows.new < vec_capacity rows.new) }
     ensures place { OnOk result (length rows.new.items + 1 ≤ vec_capacity numbers.new) }
-    ensures kept { vec_capacity numbers.old ≤ vec_capacity numbers.new }
+    ensures kept { (vec_capacity rows.old ≤ vec_capacity rows.new)
+        × (vec_capacity numbers.old ≤ vec_capacity numbers.new) }
+    ensures needed { length rows.old.items < vec_capacity rows.old
+        → length rows.old.items < vec_capacity numbers.old → IsOk result }
     ensures refused { IsOkUnless result Error.Memory }
 {
     numbers.clear();
     rows.reserve(1)?;
     numbers.reserve(rows.as_slice().len() + 1)?;
+    Ok(())
+}
+
+/// Makes room for as many rows as a table may have, and for their numbers; the rows aren't numbered
+/// then. Error: `Memory`.
+pub(crate) fn make_all_room(rows: &mut Vec<Row>, numbers: &mut Vec<u64>) -> Result<(), Error>
+    requires { length rows.old.items ≤ max_rows }
+    ensures rows { rows.new.items ≡ rows.old.items }
+    ensures numbers { numbers.new.items ≡ [] }
+    ensures room { OnOk result
+        ((max_rows ≤ vec_capacity rows.new) × (max_rows ≤ vec_capacity numbers.new)) }
+    ensures kept { vec_capacity numbers.old ≤ vec_capacity numbers.new }
+    ensures refused { IsOkUnless result Error.Memory }
+{
+    numbers.clear();
+    rows.reserve_exact(MAX_ROWS - rows.as_slice().len())?;
+    numbers.reserve_exact(MAX_ROWS)?;
     Ok(())
 }
 
@@ -79,7 +101,8 @@ pub(crate) fn replace_row(rows: &mut Vec<Row>, numbers: &mut Vec<u64>, place: us
     requires inside { place < length rows.old.items }
     ensures rows { rows.new.items ≡ slice_set rows.old.items place row }
     ensures indexed { (numbers.new.items ≡ []) ⊎ (numbers.new.items ≡ numbers_of rows.new.items) }
-    ensures room { vec_capacity numbers.new ≡ vec_capacity numbers.old }
+    ensures room { (vec_capacity rows.new ≡ vec_capacity rows.old)
+        × (vec_capacity numbers.new ≡ vec_capacity numbers.old) }
 {
     if !are_numbered_alike(&rows[place], &row) {
         numbers.clear();

@@ -4,7 +4,7 @@ ghost use Rattle.std.specs.Prelude.{◌≡◌, ◌≤◌, true};
 ghost use Rattle.rtmp.specs.Routes as spec;
 ghost use Rattle.rtmp.specs.Routes.{IsRouteMap};
 
-use crate::index::{make_room, poison_rows, renew, replace_row};
+use crate::index::{make_all_room, make_room, poison_rows, renew, replace_row};
 use crate::removal::{Removal, remove_rows};
 use crate::row::Row;
 use crate::rows::{after_hearing, count_beside, direct_row, heard_row, rows_are_apart};
@@ -31,13 +31,17 @@ pub struct IndexedTable {
 pub type Routes = IndexedTable;
 
 impl Model for IndexedTable {
-    ghost use Rattle.std.specs.Prelude.{List, vec_capacity};
-    ghost use Rattle.rtmp.specs.declared.row.Row.{Row as RowValue};
+    ghost use Rattle.std.specs.Prelude.{◌&&◌, nat_le, vec_capacity};
+    ghost use Rattle.at_base.specs.Limits.{max_rows};
     ghost use Rattle.rtmp.specs.Indexing.{IsIndexed};
+    ghost use Rattle.rtmp.specs.Routes.{Tabled};
 
-    ghost Value = { List RowValue };
+    ghost Value = { Tabled };
 
-    ghost view = { λ t. t.rows.items };
+    ghost view = { λ t. record {
+      rows = t.rows.items;
+      has_room = nat_le max_rows (vec_capacity t.rows) && nat_le max_rows (vec_capacity t.by_next);
+    } };
 
     ghost invariant = { λ t. IsIndexed t.rows.items t.by_next.items (vec_capacity t.by_next) };
 }
@@ -69,7 +73,9 @@ fn is_new(rows: &[Row], range: Range, distance: u8) -> bool
 }
 
 impl RouteTable for IndexedTable {
-    ghost rows = { λ t. t };
+    ghost rows = { λ t. t.rows };
+
+    ghost has_room = { λ t. t.has_room };
 
     fn empty(alloc: Global) -> Result<IndexedTable, Error> {
         Ok(IndexedTable {
@@ -80,8 +86,11 @@ impl RouteTable for IndexedTable {
     }
 
     fn copy(&self) -> Result<IndexedTable, Error> {
-        let rows = Vec::from_slice(*self.rows.allocator(), self.rows.as_slice())?;
-        let by_next = Vec::with_capacity(*self.rows.allocator(), self.rows.as_slice().len())?;
+        // The copy has room for as many rows.
+        let alloc = *self.rows.allocator();
+        let mut rows = Vec::with_capacity(alloc, self.rows.capacity())?;
+        rows.extend_from_slice(self.rows.as_slice())?;
+        let by_next = Vec::with_capacity(alloc, self.by_next.capacity())?;
         Ok(IndexedTable {
             rows,
             by_next,
@@ -99,6 +108,18 @@ impl RouteTable for IndexedTable {
 
     fn row_for(&self, net: u16) -> Option<Row> {
         usable_row(self.rows.as_slice(), net)
+    }
+
+    fn is_new(&self, range: Range, distance: u8) -> bool {
+        is_new(self.rows.as_slice(), range, distance)
+    }
+
+    fn has_room(&self) -> bool {
+        self.rows.capacity() >= MAX_ROWS && self.by_next.capacity() >= MAX_ROWS
+    }
+
+    fn make_room(&mut self) -> Result<(), Error> {
+        make_all_room(&mut self.rows, &mut self.by_next)
     }
 
     fn load(&mut self, given: &[Row]) -> Result<(), Error> {

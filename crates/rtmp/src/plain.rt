@@ -27,13 +27,16 @@ pub struct PlainTable {
 }
 
 impl Model for PlainTable {
-    ghost use Rattle.std.specs.Prelude.{List};
-    ghost use Rattle.rtmp.specs.declared.row.Row.{Row as RowValue};
-    ghost use Rattle.rtmp.specs.Routes.{IsRouteMap};
+    ghost use Rattle.std.specs.Prelude.{nat_le, vec_capacity};
+    ghost use Rattle.at_base.specs.Limits.{max_rows};
+    ghost use Rattle.rtmp.specs.Routes.{IsRouteMap, Tabled};
 
-    ghost Value = { List RowValue };
+    ghost Value = { Tabled };
 
-    ghost view = { λ t. t.rows.items };
+    ghost view = { λ t. record {
+      rows = t.rows.items;
+      has_room = nat_le max_rows (vec_capacity t.rows);
+    } };
 
     ghost invariant = { λ t. IsRouteMap t.rows.items };
 }
@@ -101,7 +104,9 @@ fn is_new(rows: &[Row], range: Range, distance: u8) -> bool
 }
 
 impl RouteTable for PlainTable {
-    ghost rows = { λ t. t };
+    ghost rows = { λ t. t.rows };
+
+    ghost has_room = { λ t. t.has_room };
 
     fn empty(alloc: Global) -> Result<PlainTable, Error> {
         Ok(PlainTable {
@@ -124,6 +129,19 @@ impl RouteTable for PlainTable {
 
     fn row_for(&self, net: u16) -> Option<Row> {
         usable_row(self.rows.as_slice(), net).copied()
+    }
+
+    fn is_new(&self, range: Range, distance: u8) -> bool {
+        is_new(self.rows.as_slice(), range, distance)
+    }
+
+    fn has_room(&self) -> bool {
+        self.rows.capacity() >= MAX_ROWS
+    }
+
+    fn make_room(&mut self) -> Result<(), Error> {
+        let more = MAX_ROWS - self.rows.len();
+        Ok(self.rows.reserve_exact(more)?)
     }
 
     fn load(&mut self, given: &[Row]) -> Result<(), Error> {

@@ -32,11 +32,14 @@ pub enum Change {
 ///
 /// Inside AppleTalk, the chapter on RTMP.
 pub trait RouteTable: Drop {
-    ghost use Rattle.std.specs.Prelude.{List};
+    ghost use Rattle.std.specs.Prelude.{Bool, List};
     ghost use Rattle.rtmp.specs.declared.row.Row.{Row as RowValue};
 
     // The rows of the map, by rising range.
     ghost rows: { Self → List RowValue };
+
+    // There is room for `MAX_ROWS` rows.
+    ghost has_room: { Self → Bool };
 
     /// A table without rows. Error: `Memory`.
     fn empty(alloc: Global) -> Result<Self, Error>
@@ -62,6 +65,21 @@ pub trait RouteTable: Drop {
     fn row_for(&self, net: u16) -> Option<Row>
         ensures value { result ≡ spec.row_for net (rows self.now) }
         ensures map { IsRouteMap (rows self.now) };
+
+    /// Whether a range without a row is added when it is heard of at a distance. Allocates nothing.
+    fn is_new(&self, range: Range, distance: u8) -> bool
+        ensures { result ≡ spec.is_new range distance (rows self.now) };
+
+    /// Whether there is room for `MAX_ROWS` rows. Allocates nothing.
+    fn has_room(&self) -> bool
+        ensures value { result ≡ has_room self.now }
+        ensures full { max_rows ≤ length (rows self.now) → result ≡ true };
+
+    /// Makes room for `MAX_ROWS` rows. The rows don't change. Error: `Memory`.
+    fn make_room(&mut self) -> Result<(), Error>
+        ensures ok { OnOk result (has_room self.new ≡ true) }
+        ensures refused { IsOkUnless result Error.Memory }
+        ensures same { rows self.new ≡ rows self.old };
 
     /// Replaces the table's rows with these. The caller ensures that distances are at most 31.
     ///
@@ -91,7 +109,7 @@ pub trait RouteTable: Drop {
     /// Handles a tuple heard on a port: router `source` is at `distance` from a range.
     ///
     /// Errors, both only where the range is new: `Full` where the table has `MAX_ROWS` rows;
-    /// `Memory`. A refusal changes nothing.
+    /// `Memory`, where room for them wasn't made before. A refusal changes nothing.
     fn hear(&mut self, range: Range, distance: u8, source: Addr, port: u8) -> Result<Change, Error>
         ensures ok { IfOk result
             (λ change. (rows self.new, change) ≡ heard range distance source port (rows self.old)) }
@@ -99,8 +117,10 @@ pub trait RouteTable: Drop {
             ↔ (((heard range distance source port (rows self.old)).1 ≡ Added)
             × (max_rows ≤ length (rows self.old))) }
         ensures stays { (heard range distance source port (rows self.old)).1 ≢ Added → IsOk result }
-        ensures refused { IfErr result (λ e. (e ≡ Error.Full) ⊎ (e ≡ Error.Memory)) }
-        ensures unchanged { OnErr result (rows self.new ≡ rows self.old) };
+        ensures refused { IfErr result
+            (λ e. (e ≡ Error.Full) ⊎ ((e ≡ Error.Memory) × (has_room self.old ≡ false))) }
+        ensures unchanged { OnErr result (rows self.new ≡ rows self.old) }
+        ensures room { has_room self.old ≡ true → has_room self.new ≡ true };
 
     /// Ages the table by one period: rows in their last state are removed, and the others, except
     /// direct rows, get the next state. Allocates nothing.

@@ -40,6 +40,7 @@ pub enum Nonextended {
 
 impl AnyTuple {
     /// The range and distance that are heard of the tuple, if any. Allocates nothing.
+    #[inline(always)]
     pub fn heard(self, nonextended: Nonextended) -> Option<Tuple>
         ensures { result ≡ heard_tuple nonextended self }
     {

@@ -120,6 +120,7 @@ impl ItemFormat for WrittenFormat {
 }
 
 /// The tuple with its kind.
+#[inline(always)]
 pub(crate) fn any_of(written: &Written) -> AnyTuple
     ensures { result ≡ spec.any_of written.now }
 {

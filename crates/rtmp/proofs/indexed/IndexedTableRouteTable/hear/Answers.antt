@@ -1,8 +1,9 @@
-use Rattle.std.proofs.Common.{◌≡◌, true, inl, length, refl, ap, sym, ◌∙◌, arith}
+use Rattle.std.proofs.Common.{◌≡◌, true, inl, length, refl, ap, subst, sym, ◌∙◌, arith}
 use Rattle.std.proofs.lemmas.List.{length-set}
 use Rattle.at_base.proofs.Spans.{item_read, length_with}
 use Rattle.at_base.specs.Spans.{IsAt, IsBefore}
-use Rattle.rtmp.specs.Routes.{heard_row, is_new}
+use Rattle.rtmp.specs.declared.table.Change.TheVariants.{Added}
+use Rattle.rtmp.specs.Routes.{Tabled, heard, heard_row, is_new}
 use Rattle.rtmp.proofs.Heard.{There, new_map, there}
 use Rattle.rtmp.proofs.Maps.{rows_apart}
 use Rattle.rtmp.proofs.indexed.IndexedTableRouteTable.hear.Goals as goal
@@ -31,7 +32,11 @@ pub returns-in-Ok-clause-ok : goal.returns-in-Ok-clause-ok
 returns-in-Ok-clause-ok c = rw (← c.self.view_is, c.replace_row.ensures.rows, c.after_hearing-row.ensures, (found c).is) refl
 
 pub returns-in-Ok-clause-full : goal.returns-in-Ok-clause-full
-returns-in-Ok-clause-full c = (λ e. cc, λ h. absurd ((found c).old (rw c.self.view_is h.0)))
+returns-in-Ok-clause-full c = (
+  λ e. cc,
+  λ h. absurd ((found c).old (subst (λ (t : Tabled). (heard c.args.range c.args.distance c.args.source c.args.port t.rows).1 ≡ Added)
+      (sym c.self.view_is) h.0)),
+)
 
 pub invariant_of-self-in-Err : goal.invariant_of-self-in-Err
 invariant_of-self-in-Err c =

@@ -8,7 +8,7 @@ use Rattle.rtmp.proofs.Spoiled.{none_poisoned, poisoned_number}
 use Rattle.rtmp.proofs.indexed.IndexedTableRouteTable.poison.Goals as goal
 
 pub returns-then-is_none : goal.returns-then-is_none
-returns-then-is_none c = none_poisoned c.args.next c.args.self.now (sym c.is_none.ensures ∙ c.if-is_none.true)
+returns-then-is_none c = none_poisoned c.args.next c.args.self.now.rows (sym c.is_none.ensures ∙ c.if-is_none.true)
 
 pub poison_rows-requires-clause-map : goal.poison_rows-requires-clause-map
 poison_rows-requires-clause-map c = c.self.invariant.map

@@ -1,7 +1,8 @@
-use Rattle.std.proofs.Common.{◌≡◌, true, refl, sym, ◌∙◌, arith}
+use Rattle.std.proofs.Common.{◌≡◌, true, refl, subst, sym, ◌∙◌, arith}
 use Rattle.at_base.proofs.Spans.{item_read}
 use Rattle.at_base.specs.Spans.{IsAt, IsBefore}
-use Rattle.rtmp.specs.Routes.{heard_row, is_new}
+use Rattle.rtmp.specs.declared.table.Change.TheVariants.{Added}
+use Rattle.rtmp.specs.Routes.{Tabled, heard, heard_row, is_new}
 use Rattle.rtmp.proofs.Heard.{There, new_map, there}
 use Rattle.rtmp.proofs.Maps.{rows_apart}
 use Rattle.rtmp.proofs.plain.PlainTableRouteTable.hear.Goals as goal
@@ -25,7 +26,11 @@ pub returns-in-Ok-clause-ok : goal.returns-in-Ok-clause-ok
 returns-in-Ok-clause-ok c = rw (← c.self.view_is, c.after_hearing-row.ensures, (found c).is) refl
 
 pub returns-in-Ok-clause-full : goal.returns-in-Ok-clause-full
-returns-in-Ok-clause-full c = (λ e. cc, λ h. absurd ((found c).old (rw c.self.view_is h.0)))
+returns-in-Ok-clause-full c = (
+  λ e. cc,
+  λ h. absurd ((found c).old (subst (λ (t : Tabled). (heard c.args.range c.args.distance c.args.source c.args.port t.rows).1 ≡ Added)
+      (sym c.self.view_is) h.0)),
+)
 
 pub invariant_of-self-in-Err : goal.invariant_of-self-in-Err
 invariant_of-self-in-Err c =
