@@ -59,13 +59,17 @@ pub data PlaysAll : Running → List Step → List ℕ → Running → Type 0 wh
   Played : (old between new : Running) (steps : List Step) (s : Step) (text more : List ℕ) → PlaysAll old steps text between
       → Plays between s more new → PlaysAll old (steps ++ s ∷ []) (text ++ more) new
 
+-- the most entries of a trace's transcript
+abbrev pub max_traced : ℕ
+max_traced = 4000000
+
 -- The text is the trace of these steps over the frozen tables of an internet: the run starts with an empty transcript,
 -- room for 4,000,000 entries and stations that have received nothing, the steps are carried out, and the last line has
 -- the number of pending pairs.
 pub record IsTrace (i : Internet) (steps : List Step) (text : List ℕ) : Type 0 where
   pub begun : Running
   pub ended : Running
-  pub has_begun : HasBegun i 4000000 begun
+  pub has_begun : HasBegun i max_traced begun
   pub fresh : AreFresh begun.stations
   pub begun_frozen : IsFrozen begun
   pub ended_frozen : IsFrozen ended

@@ -15,7 +15,7 @@ use Rattle.live_cables.specs.Finding.{Knowing, held_at as held_in, places_of}
 use Rattle.live_cables.specs.Holding.{AreShed, Holds, with_tick}
 use Rattle.live_cables.specs.Playing.{IsPlayed, are_lost, is_took}
 use Rattle.live_cables.specs.Putting.{AreAsked, AreGiven, AreGivenUpTo}
-use Rattle.live_cables.specs.Steps.{HasNoRoom, Loses, are_gone, losses_since}
+use Rattle.live_cables.specs.Steps.{HasNoRoom, Loses, are_gone, losses_since, most_taken}
 use Rattle.live_cables.specs.Taking.{IsTakenIn}
 use Rattle.station.specs.Hearing.{Hearing}
 use Rattle.station.specs.declared.output.Next.{Next}
@@ -121,7 +121,7 @@ GivesInPart e station outputs left old new =
 -- it were put; then only losses were added, of frames that this call put on cables that lose frames.
 abbrev pub TakesIn : ℕ → ℕ → ℕ → (Hearing → List Output → Type 0) → Wires → Wires → Type 0
 TakesIn stamp station ports Hears old new =
-    (HasNoRoom 1285 old.cabling → ⊥)
+    (HasNoRoom most_taken old.cabling → ⊥)
     × (mid : Cabling × Knowing)
     × IsTakenIn stamp station ports Hears (old.cabling, knowing old station) mid
     × Loses (losses_since old.losing (length old.cabling.lines) mid.0) mid.0 new.cabling × (new.maps ≡ mid.1.maps)

@@ -20,6 +20,10 @@ use Rattle.station.specs.declared.output.Output.TheVariants.{Made}
 abbrev pub HasNoRoom : ℕ → Cabling → Type 0
 HasNoRoom more c = c.limit < length c.lines + more
 
+-- the most entries that a take may add where stations ask for hardware addresses
+abbrev pub most_taken : ℕ
+most_taken = 1285
+
 -- The entry ends no pair: it takes no frame, and loses at most a datagram that is held.
 abbrev pub is_calm : List Entry → Entry → Bool
 is_calm before (Took stamp station) = false

@@ -16,7 +16,7 @@ ghost use Rattle.live_cables.specs.Holding.{AreFew};
 ghost use Rattle.live_cables.specs.Living.{GivesInPart, GivesOut, IsSentOver, IsTakenBy, PassesFor, PassesInPart};
 ghost use Rattle.live_cables.specs.Living.{IsLossRefused, Plays, PlaysOn, TakesIn, TakesStill, happened};
 ghost use Rattle.live_cables.specs.Putting.{first_room};
-ghost use Rattle.live_cables.specs.Steps.{HasNoRoom};
+ghost use Rattle.live_cables.specs.Steps.{HasNoRoom, most_taken};
 ghost use Rattle.station.specs.Lawful.{AreLawful, IsNext};
 
 use crate::giving::give_all;
@@ -200,7 +200,7 @@ impl LiveCables {
 
     /// Whether the limit leaves no room for so many further entries. Allocates nothing.
     fn has_no_room(&self, more: usize) -> bool
-        requires { more ≤ 1285 }
+        requires { more ≤ most_taken }
         ensures { result ≡ nat_lt self.now.cabling.limit (length self.now.cabling.lines + more) }
     {
         (self.limit as usize) < self.cables.transcript().len() + more
@@ -209,7 +209,7 @@ impl LiveCables {
     /// Whether the frame with this stamp is pending for the station, and fewer entries are left
     /// than a take may need. Allocates nothing.
     fn is_full_for(&self, stamp: u32, station: u16) -> bool
-        ensures { result ≡ (nat_lt self.now.cabling.limit (length self.now.cabling.lines + 1285)
+        ensures { result ≡ (nat_lt self.now.cabling.limit (length self.now.cabling.lines + most_taken)
             && list_any (is_named stamp station) (pending_on self.now.cabling)) }
     {
         self.has_no_room(Rooms::HELD.take.lines) && self.cables.pending(stamp, station)
@@ -241,15 +241,15 @@ impl LiveCables {
             (λ h added. S.hears taker.old h added taker.new) self.old self.new) }
         ensures still_full { self.old.losing ≡ [] → (result ≡ Err Error.Full)
             ↔ ((list_any (is_named stamp station) (pending_on self.old.cabling) ≡ true)
-            × HasNoRoom 1285 self.old.cabling) }
+            × HasNoRoom most_taken self.old.cabling) }
         ensures still_kept { self.old.losing ≡ []
             → OnErr result ((self.new ≡ self.old) × (taker.new ≡ taker.old)) }
         ensures ports_stay { S.ports_of taker.new ≡ S.ports_of taker.old }
         ensures not_pending { (result ≡ Err Error.NotPending) ↔ (list_any (is_named stamp station)
             (pending_on self.old.cabling) ≡ false) }
-        ensures full { (result ≡ Err Error.Full) → HasNoRoom 1285 self.new.cabling }
+        ensures full { (result ≡ Err Error.Full) → HasNoRoom most_taken self.new.cabling }
         ensures no_room { list_any (is_named stamp station) (pending_on self.old.cabling) ≡ true
-            → HasNoRoom 1285 self.old.cabling → result ≡ Err Error.Full }
+            → HasNoRoom most_taken self.old.cabling → result ≡ Err Error.Full }
         ensures memory { result ≡ Err Error.Memory → HasNoRoom 1 self.new.cabling → ⊥ }
         ensures refused { IfErr result (λ e. (e ≡ Error.NotPending) ⊎ (e ≡ Error.Full)
             ⊎ (e ≡ Error.Memory)) }

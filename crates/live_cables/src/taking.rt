@@ -7,7 +7,7 @@ ghost use Rattle.cable_model.specs.Rooms.{held_rooms};
 ghost use Rattle.live_cables.specs.Finding.{seat_by};
 ghost use Rattle.live_cables.specs.Holding.{AreFew};
 ghost use Rattle.live_cables.specs.Putting.{IsAnswer};
-ghost use Rattle.live_cables.specs.Steps.{HasNoRoom, Takes};
+ghost use Rattle.live_cables.specs.Steps.{HasNoRoom, Takes, most_taken};
 ghost use Rattle.live_cables.specs.Taking.{IsTakenIn};
 ghost use Rattle.cable_model.specs.Logs.{pending_on};
 
@@ -51,7 +51,7 @@ fn take_answer<S: Taker>(
     ensures ports_stay { S.ports_of taker.new ≡ S.ports_of taker.old }
     ensures not_pending { (result ≡ Err Error.NotPending) ↔ (list_any (is_named stamp station)
         (pending_on cables.old) ≡ false) }
-    ensures full { (result ≡ Err Error.Full) → HasNoRoom 1285 cables.old }
+    ensures full { (result ≡ Err Error.Full) → HasNoRoom most_taken cables.old }
     ensures refused { IfErr result (λ e. (e ≡ Error.NotPending) ⊎ (e ≡ Error.Full)
         ⊎ (e ≡ Error.Memory)) }
     ensures kept { OnErr result (cables.new ≡ cables.old) }
@@ -103,7 +103,7 @@ pub fn take<S: Taker>(
     ensures ports_stay { S.ports_of taker.new ≡ S.ports_of taker.old }
     ensures not_pending { (result ≡ Err Error.NotPending) ↔ (list_any (is_named stamp station)
         (pending_on cables.old) ≡ false) }
-    ensures full { (result ≡ Err Error.Full) → HasNoRoom 1285 cables.old }
+    ensures full { (result ≡ Err Error.Full) → HasNoRoom most_taken cables.old }
     ensures refused { IfErr result (λ e. (e ≡ Error.NotPending) ⊎ (e ≡ Error.Full)
         ⊎ (e ≡ Error.Memory)) }
     ensures kept { OnErr result (cables.new ≡ cables.old) }

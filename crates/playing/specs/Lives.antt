@@ -2,7 +2,7 @@
 use Rattle.std.specs.Prelude.{◌≡◌, ℕ, ◌+◌, ◌-◌, ◌<◌, true, List, [], ◌∷◌, ◌++◌, Option, Some, None, length}
 use Rattle.at_base.specs.declared.error.Error.TheVariants.{Full}
 use Rattle.internet_file.specs.Files.{Planned}
-use Rattle.live_cables.specs.Steps.{HasNoRoom}
+use Rattle.live_cables.specs.Steps.{HasNoRoom, most_taken}
 use Rattle.planned_stations.specs.Beginning.{AreBegun}
 use Rattle.table_image.specs.declared.version.Version.{Version}
 use Rattle.table_image.specs.declared.version.Version.TheVariants.{V1}
@@ -10,7 +10,7 @@ use Rattle.world.specs.Frozen.{needs_version_2}
 use Rattle.world.specs.Scheduling.{IsSchedule}
 use Rattle.world.specs.Stopping.{IsStopped}
 use Rattle.world.specs.Ticking.{IsTick}
-use Rattle.world.specs.Worlds.{Ticks, TicksOn, Worldly, wires_begun}
+use Rattle.world.specs.Worlds.{Ticks, TicksOn, Worldly, max_entries, wires_begun}
 
 -- The world started as its plan says, and each of its ticks finished.
 pub data Lives : Worldly → Type 0 where
@@ -43,8 +43,8 @@ pub record Fills (plan : Planned) : Type 0 where
   pub next : after.now ≡ before.now + 1
   pub stops : IsStopped Full before after
   pub ticks : Ticks plan after.now before.wires after.wires
-  pub limit : after.wires.cabling.limit ≡ 4000000
-  pub full : HasNoRoom 1285 after.wires.cabling
+  pub limit : after.wires.cabling.limit ≡ max_entries
+  pub full : HasNoRoom most_taken after.wires.cabling
 
 -- A plan whose play ends with tables that an image of version 1 can't hold, though that version was asked for.
 pub record Outgrows (version : Option Version) (plan : Planned) : Type 0 where

@@ -9,6 +9,7 @@ use Rattle.cable_model.specs.Transcript.{Entry}
 use Rattle.image_cables.specs.Settled.{cable_ranges, seat_addresses, seat_maps}
 use Rattle.legal_runs.specs.Stations.{cable_seats}
 use Rattle.live_cables.specs.Living.{IsSentOver, TakesStill}
+use Rattle.live_cables.specs.Steps.{most_taken}
 use Rattle.resolved_runs.specs.Fitting.{SeatsFit}
 use Rattle.run_cables.specs.declared.wiring.Wiring.{Wiring}
 use Rattle.run_cables.specs.declared.wiring.Wiring.TheVariants.{Known, Asking}
@@ -34,7 +35,7 @@ pending_for w = pending_on (cabling_of w)
 -- The entries for which a take needs room.
 abbrev pub take_room : Wiring → ℕ
 take_room (Known c) = 771
-take_room (Asking w) = 1285
+take_room (Asking w) = most_taken
 
 -- The entries for which a sending needs room.
 abbrev pub send_room : Wiring → ℕ

@@ -2,7 +2,7 @@
 use Rattle.std.specs.Prelude.{◌≡◌, ◌⊎◌, ◌≤◌, Result, Err, None, Some, IfErr, IfSome, OnOk}
 use Rattle.at_base.specs.declared.error.Error.{Error}
 use Rattle.at_base.specs.declared.error.Error.TheVariants.{Full}
-use Rattle.live_cables.specs.Steps.{HasNoRoom}
+use Rattle.live_cables.specs.Steps.{HasNoRoom, most_taken}
 use Rattle.world.specs.Acting.{KeepsFirst}
 use Rattle.world.specs.Stopping.{MayStop}
 use Rattle.world.specs.Ticking.{IsTick}
@@ -21,7 +21,7 @@ pub record Ticked {A : Type 0} (old new : Worldly) (result : Result A Error) : T
 pub record Over {A : Type 0} (old new : Worldly) (result : Result A Error) : Type 0 where
   pub over : old.stopped ≡ None → old.plan.ticks ≤ old.now → result ≡ Err Full
   pub over_stays : old.stopped ≡ None → old.plan.ticks ≤ old.now → new ≡ record old { stopped = Some Full }
-  pub full : old.stopped ≡ None → result ≡ Err Full → (old.plan.ticks ≤ old.now) ⊎ HasNoRoom 1285 new.wires.cabling
+  pub full : old.stopped ≡ None → result ≡ Err Full → (old.plan.ticks ≤ old.now) ⊎ HasNoRoom most_taken new.wires.cabling
 
 -- The error of the first tick that is refused is the one of each later tick, which changes nothing.
 pub record Stops {A : Type 0} (old new : Worldly) (result : Result A Error) : Type 0 where

@@ -9,7 +9,7 @@ use Rattle.internet_file.specs.Files.{Planned}
 use Rattle.internet_file.specs.declared.action.Action.{Action}
 use Rattle.internet_file.specs.declared.action.Do.{Do}
 use Rattle.live_cables.specs.Living.{GivesInPart, IsLossRefused, PassesInPart, Wires}
-use Rattle.live_cables.specs.Steps.{HasNoRoom, loses_by}
+use Rattle.live_cables.specs.Steps.{HasNoRoom, loses_by, most_taken}
 use Rattle.live_node.specs.Living.{LivingNode}
 use Rattle.live_node.specs.Ticking.{LiveTicks as NodeTicks}
 use Rattle.live_router.specs.Living.{Living}
@@ -24,7 +24,7 @@ use Rattle.world.specs.Losing.{is_on, loses_at}
 use Rattle.world.specs.Passing.{AreAged, HasTicked, HavePassed}
 use Rattle.world.specs.Taking.{AreTaken, IsOne, IsTaken}
 use Rattle.world.specs.Ticking.{Begins}
-use Rattle.world.specs.Worlds.{Worldly}
+use Rattle.world.specs.Worlds.{Worldly, max_takes}
 
 -- ---- The stations advance
 
@@ -120,7 +120,7 @@ pub record AreActing (e : Error) (plan : Planned) (stations : List (Member Livin
 -- room for another loss, and only there.
 abbrev pub MayTake : Error → List (Member Living LivingNode) → List (Member Living LivingNode) → Wires → Wires → Type 0
 MayTake e stations now old new =
-    ((now ≡ stations) × (new ≡ old) × (pending_on old.cabling ≢ []) × ((e ≡ Full) ↔ HasNoRoom 1285 old.cabling))
+    ((now ≡ stations) × (new ≡ old) × (pending_on old.cabling ≢ []) × ((e ≡ Full) ↔ HasNoRoom most_taken old.cabling))
     ⊎ (IsTaken stations now old new × IsLossRefused e old new)
 
 -- Frames were taken, fewer than `most`, and the taking of the next one was refused.
@@ -155,7 +155,7 @@ pub record StopsTaking (e : Error) (plan : Planned) (tick : ℕ) (stations now :
   pub passed : List (Member Living LivingNode)
   pub acted : Wires
   pub begins : Begins plan tick stations passed old acted refused refused_now schedule left
-  pub taking : AreTaking e 10000 passed now acted new
+  pub taking : AreTaking e max_takes passed now acted new
 
 -- A tick was stopped in one of its three phases.
 abbrev pub StopsIn : Error → Planned → ℕ → List (Member Living LivingNode) → List (Member Living LivingNode) → Wires → Wires

@@ -33,13 +33,21 @@ pub record Worldly : Type 0 where
   pub refused : List (ℕ × ℕ)
   pub schedule : List ℕ
 
+-- the most entries of a play's transcript
+abbrev pub max_entries : ℕ
+max_entries = 4000000
+
+-- the most frames that are taken in a tick
+abbrev pub max_takes : ℕ
+max_takes = 10000
+
 -- The cables of a plan before the first tick: the transcript is empty, no seat has a settled address or a mapping, and
 -- no cable loses frames.
 abbrev pub wires_begun : Planned → Wires
 wires_begun plan = record {
   cabling = record {
     seats = plan_seats plan;
-    limit = 4000000;
+    limit = max_entries;
     rooms = held_rooms;
     lines = [];
     kept = [];
@@ -75,7 +83,7 @@ pub record IsWorld (w : Worldly) : Type 0 where
   pub whole : length w.stations ≡ length w.plan.routers + length w.plan.nodes
   pub few : w.now ≤ w.plan.ticks
   -- The limit on the number of entries.
-  pub limit : w.wires.cabling.limit ≡ 4000000
+  pub limit : w.wires.cabling.limit ≡ max_entries
 
 -- In this tick, entries were added: each frame that was taken was pending for its station, no frame was taken that was
 -- put in this tick on a cable that loses frames in it, and no other frame was lost.
@@ -89,5 +97,5 @@ pub record Ticks (plan : Planned) (tick : ℕ) (old new : Wires) : Type 0 where
 pub record TicksOn (plan : Planned) (tick : ℕ) (old new : Wires) : Type 0 where
   pub ticks : Ticks plan tick old new
   pub lost : IsTrue (are_lost (plan_seats plan) (loses_at plan tick) (happened old) ticks.added)
-  pub few : count is_took ticks.added ≤ 10000
-  pub ended : (pending (plan_seats plan) (happened new) ≡ []) ⊎ (count is_took ticks.added ≡ 10000)
+  pub few : count is_took ticks.added ≤ max_takes
+  pub ended : (pending (plan_seats plan) (happened new) ≡ []) ⊎ (count is_took ticks.added ≡ max_takes)

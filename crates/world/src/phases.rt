@@ -2,12 +2,14 @@
 
 ghost use Rattle.std.specs.Prelude.{◌≡◌, ◌≤◌, length, map, IfErr, OnErr, OnOk};
 ghost use Rattle.live_cables.specs.Living.{happened};
+ghost use Rattle.live_cables.specs.Steps.{most_taken};
 ghost use Rattle.planned_stations.specs.Planning.{AreSeated, ports_of};
 ghost use Rattle.world.specs.Acting.{KeepsFirst};
 ghost use Rattle.world.specs.Going.{Did, Ends, GoesOn};
 ghost use Rattle.world.specs.Received.{AreReceived, got};
 ghost use Rattle.world.specs.Stopping.{StopsBefore, StopsIn};
 ghost use Rattle.world.specs.Ticking.{Begins, Plays};
+ghost use Rattle.world.specs.Worlds.{max_takes};
 
 use crate::acting::act_all;
 use crate::station_ticks::tick_all;
@@ -64,7 +66,7 @@ pub fn run_phases<T: RouteTable>(
     requires seated { AreSeated wires.old.cabling.seats (map ports_of stations.old.items) }
     ensures ports { map ports_of stations.new.items ≡ map ports_of stations.old.items }
     ensures keeps { KeepsFirst refused.old.items refused.new.items }
-    ensures did { Did (Ends 10000 wires.old wires.new) 1285 wires.old wires.new result }
+    ensures did { Did (Ends max_takes wires.old wires.new) most_taken wires.old wires.new result }
     ensures plays { OnOk result (Plays plan.now now stations.old.items stations.new.items
         wires.old wires.new refused.old.items refused.new.items
         schedule.old.items schedule.new.items) }

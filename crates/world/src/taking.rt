@@ -6,7 +6,7 @@ ghost use Rattle.std.specs.List.{list_any};
 ghost use Rattle.cable_model.specs.Outcomes.{is_named};
 ghost use Rattle.cable_model.specs.Transcript.{one};
 ghost use Rattle.live_cables.specs.Living.{IsLossRefused, happened};
-ghost use Rattle.live_cables.specs.Steps.{HasNoRoom};
+ghost use Rattle.live_cables.specs.Steps.{HasNoRoom, most_taken};
 ghost use Rattle.planned_stations.specs.Planning.{AreSeated, ports_of};
 ghost use Rattle.world.specs.Going.{Did, Ends, Goes, GoesOn};
 ghost use Rattle.world.specs.Received.{AreReceived, got};
@@ -43,9 +43,9 @@ fn take<T: RouteTable>(
         → AreReceived (happened wires.new) (map got stations.new.items) }
     ensures not_pending { (result ≡ Err Error.NotPending) ↔ (list_any (is_named stamp station)
         (pending_on wires.old.cabling) ≡ false) }
-    ensures full { (result ≡ Err Error.Full) → HasNoRoom 1285 wires.new.cabling }
+    ensures full { (result ≡ Err Error.Full) → HasNoRoom most_taken wires.new.cabling }
     ensures no_room { list_any (is_named stamp station) (pending_on wires.old.cabling) ≡ true
-        → HasNoRoom 1285 wires.old.cabling → result ≡ Err Error.Full }
+        → HasNoRoom most_taken wires.old.cabling → result ≡ Err Error.Full }
     ensures refused { IfErr result (λ e. (e ≡ Error.NotPending) ⊎ (e ≡ Error.Full)
         ⊎ (e ≡ Error.Memory)) }
 {
@@ -73,7 +73,7 @@ fn take_first<T: RouteTable>(
         → pending_on wires.new.cabling ≡ []) }
     ensures received { AreReceived (happened wires.old) (map got stations.old.items)
         → AreReceived (happened wires.new) (map got stations.new.items) }
-    ensures full { (result ≡ Err Error.Full) → HasNoRoom 1285 wires.new.cabling }
+    ensures full { (result ≡ Err Error.Full) → HasNoRoom most_taken wires.new.cabling }
     ensures refused { IfErr result (λ e. (e ≡ Error.Full) ⊎ (e ≡ Error.Memory)) }
 {
     match wires.first() {
@@ -93,7 +93,7 @@ pub fn take_all<T: RouteTable>(
 ) -> Result<(), Error>
     requires { AreSeated wires.old.cabling.seats (map ports_of stations.old.items) }
     ensures ports { map ports_of stations.new.items ≡ map ports_of stations.old.items }
-    ensures did { Did (Ends most wires.old wires.new) 1285 wires.old wires.new result }
+    ensures did { Did (Ends most wires.old wires.new) most_taken wires.old wires.new result }
     ensures taken { OnOk result ((n : ℕ) × AreTaken n stations.old.items stations.new.items
         wires.old wires.new) }
     ensures stopped { IfErr result (λ e. AreTaking e most stations.old.items stations.new.items

@@ -3,7 +3,7 @@
 ghost use Rattle.std.specs.Prelude.{◌≡◌, ◌<◌, ◌≤◌, ◌+◌, ◌⊎◌, IfErr, None, OnOk, Some};
 ghost use Rattle.cable_model.specs.Transcript.{ArePutOnce};
 ghost use Rattle.live_cables.specs.Living.{happened};
-ghost use Rattle.live_cables.specs.Steps.{HasNoRoom};
+ghost use Rattle.live_cables.specs.Steps.{HasNoRoom, most_taken};
 ghost use Rattle.world.specs.Acting.{KeepsFirst};
 ghost use Rattle.world.specs.Stopping.{StopsTick};
 ghost use Rattle.world.specs.Ticking.{IsTick};
@@ -36,7 +36,7 @@ impl<T: RouteTable> World<T> {
         ensures plays { OnOk result (IsTick self.old self.new) }
         ensures steps_stay { IfErr result (λ e. StopsTick e self.old self.new) }
         ensures keeps { KeepsFirst self.old.refused self.new.refused }
-        ensures full { (result ≡ Err Error.Full) → HasNoRoom 1285 self.new.wires.cabling }
+        ensures full { (result ≡ Err Error.Full) → HasNoRoom most_taken self.new.wires.cabling }
         ensures refused { IfErr result (λ e. (e ≡ Error.Full) ⊎ (e ≡ Error.Memory)) }
     {
         let losing = match losing_at(self.alloc, &self.plan, self.passed) {
@@ -66,7 +66,7 @@ impl<T: RouteTable> World<T> {
         ensures over_stays { self.old.plan.ticks ≤ self.old.now → self.new ≡ self.old }
         ensures ticked { Ticked self.old self.new result }
         ensures full { (result ≡ Err Error.Full)
-            → (self.old.plan.ticks ≤ self.old.now) ⊎ HasNoRoom 1285 self.new.wires.cabling }
+            → (self.old.plan.ticks ≤ self.old.now) ⊎ HasNoRoom most_taken self.new.wires.cabling }
         ensures refused { IfErr result (λ e. (e ≡ Error.Full) ⊎ (e ≡ Error.Memory)) }
     {
         if self.passed >= self.plan.ticks() {

@@ -11,7 +11,7 @@ ghost use Rattle.planned_stations.specs.Seating.{plan_seats};
 ghost use Rattle.world.specs.Scheduling.{IsSchedule};
 ghost use Rattle.world.specs.Seen as seen_spec;
 ghost use Rattle.world.specs.Seen.{node_at};
-ghost use Rattle.world.specs.Worlds.{IsWorld, wires_begun};
+ghost use Rattle.world.specs.Worlds.{IsWorld, max_entries, wires_begun};
 
 use crate::beginning::stations_begun;
 use crate::scheduling::schedule_of;
@@ -123,7 +123,7 @@ impl<T: RouteTable> World<T> {
         ensures wires { IfOk result (λ w. w.wires ≡ wires_begun plan) }
         ensures begun { IfOk result (λ w. AreBegun plan w.stations) }
         ensures scheduled { IfOk result (λ w. IsSchedule plan.actions w.schedule) }
-        ensures limit { IfOk result (λ w. w.wires.cabling.limit ≡ 4000000) }
+        ensures limit { IfOk result (λ w. w.wires.cabling.limit ≡ max_entries) }
         ensures refused { IsOkUnless result Error.Memory }
     {
         recall_sound(&plan);
