@@ -4,6 +4,9 @@ import struct
 SECTION, INTERFACE, STATISTICS, PACKET = 0x0A0D0D0A, 1, 5, 6  # types of blocks
 MAGIC = 0x1A2B3C4D
 MOST_BLOCK = 2_048  # of a longer block no more is looked at
+# The magic numbers of classic captures, and the decimals of a second that their times have
+DECIMALS = {0xA1B2C3D4: 6, 0xA1B23C4D: 9}
+HEADER, FIELDS = 24, 16  # bytes of a classic capture's header, and of a record in front of its data
 MOST_INTERFACES = 256
 MOST_TIME = 2**64 - 1
 TICK, MOST_BACK, MOST_TICKS = 200_000, 10_000_000, 400
@@ -98,10 +101,14 @@ class Reader:
             raise Bad
         data, rest = rest[:captured], rest[captured:]
         lost = any(it == (1, b"lost") for it in options(order, rest[-captured % 4:]))
+        return self.seen(index, time, captured >= size, lost, data)
+
+    def seen(self, index, time, whole, lost, data):
+        """The line of a packet."""
         at = f"{index} {time} {self.ticks(time)}"
         if not self.interfaces[index][0]:
             why = "other"
-        elif captured < size:
+        elif not whole:
             why = "part"
         elif lost:
             why = "lost"
@@ -164,8 +171,52 @@ def frame_in(data):
     return f"{data[6:12].hex().upper()} {who(data[:6])} {kind} {data[22:14 + size].hex().upper()}"
 
 
+def classic_form(data):
+    """The order of bytes of a classic capture, and the decimals of its times; nothing where it is none."""
+    for order in "><":
+        decimals = DECIMALS.get(struct.unpack(order + "I", data[:4])[0])
+        if decimals:
+            return order, decimals
+    return None
+
+
+def classic_lines(order, decimals, data):
+    """The lines of a classic capture, and the exit status: a header, and records up to the end of the input."""
+    if len(data) < HEADER:
+        return ["end"], 0
+    major, minor, _, _, _, link = struct.unpack(order + "HHIIII", data[4:HEADER])
+    if (major, minor) != (2, 4):
+        return ["refused 1"], 1
+    reader, at, blocks = Reader(), HEADER, 1
+    ethernet = link % 2**16 == 1
+    reader.interfaces = [(ethernet, decimals, 0)]
+    lines = [f"classic {'ethernet' if ethernet else 'other'} {decimals} 0"]
+    while len(data) - at >= 12:
+        captured = struct.unpack(order + "I", data[at + 8:at + 12])[0]
+        if FIELDS + captured >= 2**32:
+            return [*lines, f"refused {blocks + 1}"], 1
+        end = at + FIELDS + captured
+        long = FIELDS + captured > MOST_BLOCK
+        if len(data) < (at + FIELDS if long else end):
+            break
+        blocks += 1
+        seconds, fraction, _, size = struct.unpack(order + "IIII", data[at:at + FIELDS])
+        time = (seconds * 10**9 + fraction * 10**(9 - decimals)) // 1000
+        lines.append("passed over" if long else reader.seen(0, time, captured >= size, False, data[at + FIELDS:end]))
+        if len(data) < end:
+            break
+        at = end
+    return [*lines, "end"], 0
+
+
 def lines_of(data):
     """The lines of a capture, and the exit status."""
+    form = classic_form(data) if len(data) >= 12 else None
+    return classic_lines(*form, data) if form else pcapng_lines(data)
+
+
+def pcapng_lines(data):
+    """The same of one in pcapng."""
     reader, lines, blocks = Reader(), [], 0
     try:
         while len(data) >= 12:

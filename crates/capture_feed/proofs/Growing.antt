@@ -4,8 +4,10 @@ use Rattle.std.proofs.Common.{append_assoc, inl, inr, nat_lt, if◌then◌else�
 use Rattle.std.proofs.lemmas.Bool.{cases_lt, le-ltb, lt-ltb, ltb-false, ltb-true}
 use Rattle.std.proofs.lemmas.List.{append-nil, drop_all, drop-append-le, length-append, take-append-le}
 use Rattle.capture_feed.specs.Reads.{IsFilled}
-use Rattle.capture_feed.specs.Stages.{Next, Stage, block_next, front, headed, read_as, refuses, tells, waits}
-use Rattle.pcapng.specs.Sections.{Section, Told, block_of, head_of, max_block}
+use Rattle.capture_feed.specs.Stages.{Next, Stage, block_next, headed, read_as, refuses, tells, waits}
+use Rattle.pcapng.proofs.Fronts.{front_few, front_least}
+use Rattle.pcapng.specs.Heads.{front, head_of, max_block}
+use Rattle.pcapng.specs.Sections.{Section, Told, block_of}
 use Rattle.pcapng.specs.declared.fault.Fault.{Fault}
 use Rattle.pcapng.specs.declared.head.Head.{Head}
 
@@ -51,7 +53,7 @@ module _ (s : Section) (b more : List ℕ) where
 
   -- what comes next stays, whatever follows the bytes, unless they end within it
   pub grows : block_next s b ≢ waits → block_next s (b ++ more) ≡ later (block_next s b) more
-  grows goes = by_length (head_of s.order) (headed s) b more by_head (nat_lt (length b) 12) refl goes
+  grows goes = by_length (head_of s.began) (headed s) b more by_head (nat_lt (length b) 12) refl goes
 
 -- ---- bytes that were filled up
 
@@ -73,11 +75,8 @@ rest_as : (h : Head) (rest left : List ℕ) (r : Result (Told × Section) Fault)
 rest_as h rest left (Ok x) t stage e = cc
 rest_as h rest left (Err f) t stage e = absurd cc
 
-front_few : (h : Head) → front h ≤ max_block
-front_few h = omega arith
-
 -- a block whose head is there
-module _ (s : Section) (k : List ℕ) (h : Head) (head : head_of s.order (take 12 k) ≡ Ok h) (enough : 12 ≤ length k) where
+module _ (s : Section) (k : List ℕ) (h : Head) (head : head_of s.began (take 12 k) ≡ Ok h) (enough : 12 ≤ length k) where
   headed_is : block_next s k ≡ headed s k (Ok h)
   headed_is = rw (le-ltb _ _ enough, head) refl
 
@@ -111,18 +110,18 @@ module _ (s : Section) (k : List ℕ) (h : Head) (head : head_of s.order (take 1
 pub waits_few : (s : Section) (b : List ℕ) → block_next s b ≡ waits → length b < max_block
 waits_few s b e = by (nat_lt (length b) 12) refl
   where
-    by_head : 12 ≤ length b → (h : Result Head Fault) → head_of s.order (take 12 b) ≡ h → length b < max_block
+    by_head : 12 ≤ length b → (h : Result Head Fault) → head_of s.began (take 12 b) ≡ h → length b < max_block
     by_head enough (Ok h) is = let low = lacks s b h is enough e in omega (arith, low, front_few h)
     by_head enough (Err f) is = absurd (let same : block_next s b ≡ refuses f = rw (le-ltb _ _ enough, is) refl in cc)
 
     by : (t : Bool) → nat_lt (length b) 12 ≡ t → length b < max_block
     by true t = let low = ltb-true _ _ t in omega (arith, low)
-    by false t = by_head (ltb-false _ _ t) (head_of s.order (take 12 b)) refl
+    by false t = by_head (ltb-false _ _ t) (head_of s.began (take 12 b)) refl
 
 pub short_waits : (s : Section) (b : List ℕ) → length b < 12 → block_next s b ≡ waits
 short_waits s b low = rw (lt-ltb _ _ low) refl
 
-pub head_refused : (s : Section) (b : List ℕ) (f : Fault) → 12 ≤ length b → head_of s.order (take 12 b) ≡ Err f → block_next s b ≡ refuses f
+pub head_refused : (s : Section) (b : List ℕ) (f : Fault) → 12 ≤ length b → head_of s.began (take 12 b) ≡ Err f → block_next s b ≡ refuses f
 head_refused s b f enough is = rw (le-ltb _ _ enough, is) refl
 
 -- fewer bytes than there is room for are kept as they are
@@ -136,15 +135,15 @@ kept_all n k r b same few full =
 
 module _ (s : Section) (k0 piece k1 r1 k2 r2 : List ℕ) (h : Head) (waits0 : block_next s k0 ≡ waits) (all1 : k1 ++ r1 ≡ k0 ++ piece)
     (most1 : length k0 ≤ 12 → length k1 ≤ 12) (same1 : 12 ≤ length k0 → k1 ≡ k0) (enough1 : 12 ≤ length k1)
-    (head1 : head_of s.order (take 12 k1) ≡ Ok h) (least : 12 ≤ h.len) (all2 : k2 ++ r2 ≡ k1 ++ r1) (most2 : length k1 ≤ front h → length k2 ≤ front h)
+    (head1 : head_of s.began (take 12 k1) ≡ Ok h) (least : 12 ≤ h.len) (all2 : k2 ++ r2 ≡ k1 ++ r1) (most2 : length k1 ≤ front h → length k2 ≤ front h)
     (rest2 : length k2 < front h → r2 ≡ []) where
-  front_least : 12 ≤ front h
-  front_least = omega (arith, least)
+  some : 12 ≤ front h
+  some = front_least h least
 
   within : length k1 ≤ front h
   within =
       elim (cases_lt (length k0) 12) [
-        | inl lt ↦ let few = most1 (omega (arith, lt)) in omega (arith, few, front_least)
+        | inl lt ↦ let few = most1 (omega (arith, lt)) in omega (arith, few, some)
         | inr ge ↦ let lt = lacks s k1 h head1 enough1 (ap (block_next s) (same1 ge) ∙ waits0) in omega (arith, lt)
       ]
 
@@ -155,12 +154,12 @@ module _ (s : Section) (k0 piece k1 r1 k2 r2 : List ℕ) (h : Head) (waits0 : bl
             let none = ap (λ (l : List ℕ). length l) (rest2 lt) in
             let same = ap (λ (l : List ℕ). length l) all2 in
             omega (arith, none, same, length-append k2 r2, length-append k1 r1, enough1)
-        | inr ge ↦ omega (arith, ge, front_least)
+        | inr ge ↦ omega (arith, ge, some)
       ]
 
-  head2 : head_of s.order (take 12 k2) ≡ Ok h
+  head2 : head_of s.began (take 12 k2) ≡ Ok h
   head2 =
-      ap (head_of s.order) (sym (take-append-le 12 k2 r2 enough2) ∙ (ap (take 12) all2 ∙ take-append-le 12 k1 r1 enough1)) ∙ head1
+      ap (head_of s.began) (sym (take-append-le 12 k2 r2 enough2) ∙ (ap (take 12) all2 ∙ take-append-le 12 k1 r1 enough1)) ∙ head1
 
   pub filled : IsFilled s k2 r2 (k0 ++ piece)
   filled = record {

@@ -1,40 +1,38 @@
 -- Blocks that are passed over.
-use Rattle.std.proofs.Common.{◌≡◌, ℕ, ◌+◌, ◌-◌, ◌<◌, ◌≤◌, ◌==◌, Bool, true, false, List, [], ◌++◌, length, take, drop, Some, None, refl, sym, ap, ◌∙◌}
-use Rattle.std.proofs.Common.{append_assoc, arith, ◌≢◌, inl, inr, ◌∷◌, nat_lt}
+use Rattle.std.proofs.Common.{◌≡◌, ℕ, ◌+◌, ◌-◌, ◌<◌, ◌≤◌, Bool, true, false, List, [], ◌++◌, length, take, drop, Some, None, refl, sym, ap, ◌∙◌}
+use Rattle.std.proofs.Common.{append_assoc, arith, inl, inr, ◌∷◌, nat_lt}
 use Rattle.std.proofs.Math.Seq.{drop-append-add, drop-append_seam, take-append_seam}
-use Rattle.std.proofs.lemmas.Bool.{cases_lt, eq-eqb, ne_eqb, le-ltb, lt-ltb, ltb-false, ltb-true}
+use Rattle.std.proofs.lemmas.Bool.{cases_lt, le-ltb, lt-ltb, ltb-false, ltb-true}
 use Rattle.std.proofs.lemmas.List.{append-nil, drop_all, length-append, length-take, take-append-drop}
-use Rattle.std.specs.Int.{w32}
 use Rattle.std.specs.Prelude.{min}
 use Rattle.capture_feed.specs.Skipping.{IsSkipped, KeepsLast}
-use Rattle.capture_feed.specs.Stages.{Coming, block_next, ends_well, numbered, past, pending, refused}
+use Rattle.capture_feed.specs.Stages.{Coming, block_next, ends_well, is_last, numbered, past, pending, refused}
 use Rattle.capture_feed.specs.declared.passing.Passing.{Passing}
-use Rattle.pcapng.specs.Orders.{number_in}
 use Rattle.pcapng.specs.Sections.{Section}
 use Rattle.pcapng.specs.declared.fault.Fault.TheVariants.{Length}
 
 pub skipped : (before : Passing) (piece front rest : List ℕ) (n : ℕ) → 4 ≤ before.left → n ≡ min (before.left - 4) (length piece)
     → front ≡ take n piece → rest ≡ drop n piece
-    → IsSkipped before piece (record { order = before.order; len = before.len; left = before.left - n }) rest
+    → IsSkipped before piece (record { last = before.last; left = before.left - n }) rest
 skipped before piece front rest n least is f r =
     let len : length (take n piece) ≡ n = length-take n piece ∙ omega (arith, is) in record {
       skipped = take n piece;
       all = ap (λ (l : List ℕ). take n piece ++ l) r ∙ take-append-drop n piece;
       fewer = omega (arith, is, len, least);
       least = omega (arith, is, least);
-      same = (refl, refl);
+      same = refl;
       goes = λ more. r ∙ drop_all n piece (omega (arith, is, more, least));
     }
 
-same_end : (p q : Passing) → p.order ≡ q.order → p.len ≡ q.len → (blocks : ℕ) (last : List ℕ) (after : Coming)
+same_end : (p q : Passing) → p.last ≡ q.last → (blocks : ℕ) (last : List ℕ) (after : Coming)
     → ends_well p blocks last after ≡ ends_well q blocks last after
-same_end p q order len blocks last after = rw (order, len) refl
+same_end p q same blocks last after = rw same refl
 
 module _ (s : Section) (blocks : ℕ) where
-  -- the bytes before the second length don't matter
+  -- the bytes before the last four don't matter
   pub skip_on : (before after : Passing) (front bytes : List ℕ) → before.left ≡ after.left + length front → 4 ≤ after.left
-      → before.order ≡ after.order → before.len ≡ after.len → past (Some before) s blocks (front ++ bytes) ≡ past (Some after) s blocks bytes
-  skip_on before after front bytes fewer least order len = by (nat_lt (length bytes) after.left) refl
+      → before.last ≡ after.last → past (Some before) s blocks (front ++ bytes) ≡ past (Some after) s blocks bytes
+  skip_on before after front bytes fewer least same = by (nat_lt (length bytes) after.left) refl
     where
       by : (b : Bool) → nat_lt (length bytes) after.left ≡ b → past (Some before) s blocks (front ++ bytes) ≡ past (Some after) s blocks bytes
       by true t =
@@ -50,9 +48,9 @@ module _ (s : Section) (blocks : ℕ) where
           ap (λ n. drop n (front ++ bytes)) a ∙ drop-append-add front bytes (after.left - 4) in
           let rest : drop before.left (front ++ bytes) ≡ drop after.left bytes =
           ap (λ n. drop n (front ++ bytes)) b ∙ drop-append-add front bytes after.left in
-          rw (t, still, last, rest) (same_end before after order len blocks (take 4 (drop (after.left - 4) bytes)) (numbered blocks (block_next s (drop after.left bytes))))
+          rw (t, still, last, rest) (same_end before after same blocks (take 4 (drop (after.left - 4) bytes)) (numbered blocks (block_next s (drop after.left bytes))))
 
-  -- the second length, and what comes after it
+  -- the last four bytes, and what comes after them
   pub last_on : (p : Passing) (last bytes : List ℕ) → p.left ≡ 4 → length last ≡ 4
       → past (Some p) s blocks (last ++ bytes) ≡ ends_well p blocks last (numbered blocks (block_next s bytes))
   last_on p last bytes left len =
@@ -97,9 +95,9 @@ module _ (before after : Passing) (k0 piece rest0 k1 rest1 : List ℕ) (keeps : 
       ≡ past (Some after) s blocks ((k1 ++ rest1) ++ more)
   over s blocks more =
       ap (past (Some before) s blocks) (split more)
-      ∙ skip_on s blocks before after skip.skipped ((k1 ++ rest1) ++ more) skip.fewer skip.least skip.same.0 skip.same.1
+      ∙ skip_on s blocks before after skip.skipped ((k1 ++ rest1) ++ more) skip.fewer skip.least skip.same
 
-  -- nothing is kept before the second length
+  -- nothing is kept before the last four bytes
   none_before : 4 < after.left → k1 ≡ []
   none_before more =
       let k0_none = keeps.none (omega (arith, more, skip.fewer)) in
@@ -137,21 +135,21 @@ module _ (before after : Passing) (k0 piece rest0 k1 rest1 : List ℕ) (keeps : 
         over s blocks more
         ∙ (ap (past (Some after) s blocks) (append_assoc k1 rest1 more)
         ∙ (last_on s blocks after k1 (rest1 ++ more) at_last four
-        ∙ sym (same_end before after skip.same.0 skip.same.1 blocks k1 (numbered blocks (block_next s (rest1 ++ more))))))
+        ∙ sym (same_end before after skip.same blocks k1 (numbered blocks (block_next s (rest1 ++ more))))))
 
-    pub differs : (number : ℕ) → number ≡ number_in before.order w32 k1 → number ≢ before.len → (s : Section) (blocks : ℕ) (more : List ℕ)
+    pub differs : is_last before.last k1 ≡ false → (s : Section) (blocks : ℕ) (more : List ℕ)
         → past (Some before) s blocks ((k0 ++ piece) ++ more) ≡ refused blocks Length
-    differs number is other s blocks more = ending s blocks more ∙ by (ap (λ n. n == before.len) (sym is) ∙ ne_eqb _ _ other)
+    differs other s blocks more = ending s blocks more ∙ by other
       where
-        by : (number_in before.order w32 k1 == before.len) ≡ false
+        by : is_last before.last k1 ≡ false
             → ends_well before blocks k1 (numbered blocks (block_next s (rest1 ++ more))) ≡ refused blocks Length
         by e = rw e refl
 
-    pub agrees : (number : ℕ) → number ≡ number_in before.order w32 k1 → number ≡ before.len → (s : Section) (blocks : ℕ) (more : List ℕ)
+    pub agrees : is_last before.last k1 ≡ true → (s : Section) (blocks : ℕ) (more : List ℕ)
         → past (Some before) s blocks ((k0 ++ piece) ++ more) ≡ past None s blocks (rest1 ++ more)
-    agrees number is same s blocks more = ending s blocks more ∙ by (ap (λ n. n == before.len) (sym is) ∙ eq-eqb _ _ same)
+    agrees right s blocks more = ending s blocks more ∙ by right
       where
-        by : (number_in before.order w32 k1 == before.len) ≡ true
+        by : is_last before.last k1 ≡ true
             → ends_well before blocks k1 (numbered blocks (block_next s (rest1 ++ more))) ≡ past None s blocks (rest1 ++ more)
         by e = rw e refl
 

@@ -14,7 +14,7 @@ pub record Fed : Type 0 where
   pub kept : List ℕ
   pub refused : Option (ℕ × Fault)
 
--- What was kept ends within a block; of one that is passed over nothing is kept but of its second length.
+-- What was kept ends within a block; of one that is passed over nothing is kept but of its last four bytes.
 abbrev pub Keeps : Option Passing → Section → List ℕ → Type 0
 Keeps None s kept = block_next s kept ≡ waits
 Keeps (Some p) s kept = KeepsLast p kept

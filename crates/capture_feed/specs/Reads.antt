@@ -2,14 +2,15 @@
 use Rattle.std.specs.Prelude.{◌≡◌, ◌<◌, ◌≤◌, ℕ, List, [], ◌++◌, Option, Some, None, Result, Ok, Err, length}
 use Rattle.std.specs.Borrow.{Bor}
 use Rattle.pcapng.specs.Reads.{told}
-use Rattle.pcapng.specs.Sections.{Section, Told, max_block}
+use Rattle.pcapng.specs.Heads.{max_block}
+use Rattle.pcapng.specs.Sections.{Section, Told}
 use Rattle.pcapng.specs.declared.fault.Fault.{Fault}
 use Rattle.capture_feed.specs.Stages.{Next, Stage, block_next, refuses, tells, waits}
 use Rattle.capture_feed.specs.declared.passing.Passing.{Passing}
 use Rattle.capture_feed.specs.declared.reading.Read.{Read}
 use Rattle.capture_feed.specs.declared.taking.Taken.{Taken}
 
--- At least the second length is left of a block that is passed over.
+-- At least its last four bytes are left of a block that is passed over.
 abbrev pub HasLast : Option Passing → Type 0
 HasLast None = Unit {0}
 HasLast (Some p) = 4 ≤ p.left

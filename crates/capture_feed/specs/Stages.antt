@@ -1,12 +1,19 @@
 -- Captures, block by block: what comes next of the bytes that follow those that were read.
-use Rattle.std.specs.Prelude.{ℕ, ◌+◌, ◌-◌, ◌==◌, List, [], Option, Some, None, Result, Ok, Err, drop, length, min, nat_lt, take}
+use Rattle.std.specs.Prelude.{ℕ, ◌+◌, ◌-◌, ◌==◌, Bool, true, List, Option, Some, None, Result, Ok, Err, drop, length, min, nat_lt, take}
 use Rattle.std.specs.Prelude.{if◌then◌else◌}
 use Rattle.std.specs.Int.{w32}
+use Rattle.pcapng.specs.Heads.{front, head_of, is_short}
 use Rattle.pcapng.specs.Orders.{number_in}
-use Rattle.pcapng.specs.Sections.{Section, Told, block_of, head_of, is_short, max_block}
+use Rattle.pcapng.specs.Sections.{Section, Told, block_of, unread}
 use Rattle.pcapng.specs.declared.fault.Fault.{Fault}
 use Rattle.pcapng.specs.declared.fault.Fault.TheVariants.{Length}
+use Rattle.pcapng.specs.declared.form.Forms.{Forms}
 use Rattle.pcapng.specs.declared.head.Head.{Head}
+use Rattle.pcapng.specs.declared.item.Item.{Item}
+use Rattle.pcapng.specs.declared.item.Item.TheVariants.{Block, Header, Record}
+use Rattle.pcapng.specs.declared.order.Order.{Order}
+use Rattle.capture_feed.specs.declared.passing.Last.{Last}
+use Rattle.capture_feed.specs.declared.passing.Last.TheVariants as lasts
 use Rattle.capture_feed.specs.declared.passing.Passing.{Passing}
 
 -- what the next bytes are read by: the section, and what is left of a long block that is passed over
@@ -23,13 +30,18 @@ pub data Next : Type 0 where
   -- the next block says this; the bytes after it are read by this stage
   tells : Told → Stage → List ℕ → Next
 
--- how many bytes of a block are looked at
-abbrev pub front : Head → ℕ
-front h = min h.len max_block
+-- what the last four bytes of a long block are: its length once more, if it is a block of pcapng
+abbrev pub last_as : Item → Order → ℕ → Last
+last_as (Block kind) order len = lasts.Length order len
+last_as (Header fraction) order len = lasts.Any
+last_as Record order len = lasts.Any
 
--- what is passed over after them
+abbrev pub last_of : Head → Last
+last_of h = last_as h.item h.order h.len
+
+-- what is passed over after the bytes of a block that are looked at
 abbrev pub passing_of : Head → Option Passing
-passing_of h = if is_short h then None else Some (record { order = h.order; len = h.len; left = h.len - max_block })
+passing_of h = if is_short h then None else Some (record { last = last_of h; left = h.len - front h })
 
 -- the block, where it is read
 abbrev pub read_as : Head → List ℕ → Result (Told × Section) Fault → Next
@@ -44,7 +56,7 @@ headed s bytes (Ok h) =
 
 -- the block at the front; the first twelve bytes are its head
 abbrev pub block_next : Section → List ℕ → Next
-block_next s bytes = if nat_lt (length bytes) 12 then waits else headed s bytes (head_of s.order (take 12 bytes))
+block_next s bytes = if nat_lt (length bytes) 12 then waits else headed s bytes (head_of s.began (take 12 bytes))
 
 -- ---- captures
 
@@ -53,9 +65,9 @@ pub record Standing : Type 0 where
   pub stage : Stage
   pub blocks : ℕ
 
--- before the first byte
-abbrev pub start : Standing
-start = record { stage = record { section = record { order = None; interfaces = [] }; passing = None }; blocks = 0 }
+-- before the first byte of a capture of one of these forms
+abbrev pub start : Forms → Standing
+start forms = record { stage = record { section = unread forms; passing = None }; blocks = 0 }
 
 -- the greatest number of a block
 abbrev pub max_blocks : ℕ
@@ -80,9 +92,14 @@ numbered blocks waits = pending
 numbered blocks (refuses f) = refused (counted blocks) f
 numbered blocks (tells t stage rest) = told t (record { stage = stage; blocks = counted blocks }) rest
 
--- the block that is passed over has the second length of the first one, and then this comes
+-- these are right as the last four bytes of a block
+abbrev pub is_last : Last → List ℕ → Bool
+is_last (lasts.Length order len) bytes = number_in order w32 bytes == len
+is_last lasts.Any bytes = true
+
+-- the block that is passed over ends as it has to, and then this comes
 abbrev pub ends_well : Passing → ℕ → List ℕ → Coming → Coming
-ends_well p blocks last after = if number_in p.order w32 last == p.len then after else refused blocks Length
+ends_well p blocks last after = if is_last p.last last then after else refused blocks Length
 
 -- what comes after what is left of a long block
 abbrev pub past : Option Passing → Section → ℕ → List ℕ → Coming

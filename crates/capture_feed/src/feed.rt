@@ -10,7 +10,7 @@ use crate::listener::Listen;
 use crate::passing::{Passing, pass_over};
 use crate::taking::{Taken, take};
 use at_base::Error;
-use pcapng::{Fault, MAX_BLOCK, Section};
+use pcapng::{Fault, Forms, MAX_BLOCK, Section};
 use std::alloc::Global;
 use std::marker::Model;
 
@@ -28,7 +28,7 @@ pub struct Feed {
 impl Model for Feed {
     ghost use Rattle.std.specs.Prelude.{◌≡◌, ◌≤◌, None, vec_capacity};
     ghost use Rattle.capture_feed.specs.Feeds.{Fed, Keeps};
-    ghost use Rattle.pcapng.specs.Sections.{max_block};
+    ghost use Rattle.pcapng.specs.Heads.{max_block};
 
     ghost Value = { Fed };
 
@@ -50,13 +50,14 @@ fn counted(blocks: u32) -> u32
 }
 
 impl Feed {
-    /// A capture of which nothing was fed. Error: `Memory`.
-    pub fn new(alloc: Global) -> Result<Feed, Error>
-        ensures ok { IfOk result (λ f. f ≡ record { at = spec.start; kept = []; refused = None }) }
+    /// A capture of which nothing was fed: it has to have one of these forms. Error: `Memory`.
+    pub fn new(alloc: Global, forms: Forms) -> Result<Feed, Error>
+        ensures ok { IfOk result (λ f.
+            f ≡ record { at = spec.start forms; kept = []; refused = None }) }
         ensures refused { IsOkUnless result Error.Memory }
     {
         Ok(Feed {
-            section: Section::new(),
+            section: Section::new(forms),
             passing: None,
             kept: Vec::with_capacity(alloc, MAX_BLOCK)?,
             blocks: 0,

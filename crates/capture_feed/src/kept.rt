@@ -1,7 +1,7 @@
 //! The bytes of what isn't whole.
 
 ghost use Rattle.std.specs.Prelude.{◌≡◌, ◌++◌, ◌≤◌, ◌<◌, [], length, vec_capacity};
-ghost use Rattle.pcapng.specs.Sections.{max_block};
+ghost use Rattle.pcapng.specs.Heads.{max_block};
 
 /// Fills up what was kept to this many bytes from the piece, and returns what is left of the piece.
 pub(crate) fn fill<'a>(kept: &mut Vec<u8>, piece: &'a [u8], len: usize) -> &'a [u8]

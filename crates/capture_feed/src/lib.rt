@@ -1,9 +1,10 @@
-//! Captures in the pcapng format that come in pieces, block by block.
+//! Captures that come in pieces, block by block: in the pcapng format, and classic ones.
 #![tactic(auto)]
 
 mod clock;
 mod feed;
 mod kept;
+mod laws;
 mod listener;
 mod passing;
 mod reading;
@@ -11,9 +12,10 @@ mod taking;
 
 pub use clock::Clock;
 pub use feed::Feed;
+pub use laws::first_block_comes;
 pub use listener::Listen;
-pub use passing::Passing;
+pub use passing::{Last, Passing};
 
-// Types of the results.
+// Types of the arguments and the results.
 pub use at_base::Error;
-pub use pcapng::{Block, Fault};
+pub use pcapng::{Block, Fault, Forms};

@@ -4,26 +4,45 @@ ghost use Rattle.std.specs.Prelude.{◌≡◌, ◌≤◌, ◌<◌, ◌+◌, ◌+
 ghost use Rattle.capture_feed.specs.Feeds.{IsPassed};
 ghost use Rattle.capture_feed.specs.Reads.{left_of};
 ghost use Rattle.capture_feed.specs.Skipping.{IsSkipped, KeepsLast};
-ghost use Rattle.pcapng.specs.Sections.{max_block};
+ghost use Rattle.capture_feed.specs.Stages as spec;
+ghost use Rattle.pcapng.specs.Heads.{max_block};
 
 use crate::kept::fill;
 use pcapng::{Fault, Order};
 
-/// The bytes of the second length of a block.
+/// The bytes of the second length of a block. Of what has none, as many are the last.
 const LAST_LEN: usize = 4;
+
+/// What the last four bytes of a block are that is passed over.
+#[derive(Clone, Copy, Debug, PartialEq, Eq)]
+pub enum Last {
+    /// Its length once more, in this order of bytes.
+    Length(Order, u32),
+    /// Any bytes: a record of a classic capture has one length.
+    Any,
+}
 
 /// What is left of a long block that is passed over.
 #[derive(Clone, Copy, Debug, PartialEq, Eq)]
 pub struct Passing {
-    /// The order of the bytes of its numbers.
-    pub order: Order,
-    /// Its length.
-    pub len: u32,
-    /// How many of its bytes are left, its second length with them.
+    /// What its last four bytes are.
+    pub last: Last,
+    /// How many of its bytes are left, these with them.
     pub left: u32,
 }
 
-/// Skips what is left of a block before its second length, as far as the piece goes.
+/// Whether these are right as the last bytes of a block.
+fn is_last(last: Last, bytes: &[u8]) -> bool
+    requires { length bytes.now ≡ 4 }
+    ensures { result ≡ spec.is_last last bytes.now }
+{
+    match last {
+        Last::Length(order, len) => order.four_in(bytes) == len,
+        Last::Any => true,
+    }
+}
+
+/// Skips what is left of a block before its last four bytes, as far as the piece goes.
 fn skip(before: Passing, piece: &[u8]) -> (Passing, &[u8])
     requires { 4 ≤ before.left }
     ensures { IsSkipped before piece.now result.0 result.1.now }
@@ -37,8 +56,8 @@ fn skip(before: Passing, piece: &[u8]) -> (Passing, &[u8])
     (after, rest)
 }
 
-/// Passes over what is left of a block, as far as the piece goes; of its second length a part is
-/// kept, where the piece ends within it. Error: `Length`, where its two lengths differ.
+/// Passes over what is left of a block, as far as the piece goes; of its last four bytes a part is
+/// kept, where the piece ends within them. Error: `Length`, where its two lengths differ.
 pub(crate) fn pass_over<'a>(
     before: Passing,
     passing: &mut Option<Passing>,
@@ -59,7 +78,7 @@ pub(crate) fn pass_over<'a>(
         *passing = Some(after);
         return Ok(None);
     }
-    if before.order.four_in(kept.as_slice()) != before.len {
+    if !is_last(before.last, kept.as_slice()) {
         return Err(Fault::Length);
     }
     kept.clear();

@@ -1,35 +1,36 @@
 //! Reading a block from bytes that begin with it.
 
-ghost use Rattle.std.specs.Prelude.{◌≡◌, ◌≤◌, ◌<◌, ◌%◌, IfOk, IfSome, length};
+ghost use Rattle.std.specs.Prelude.{◌≡◌, ◌<◌, IfOk, IfSome, length};
 ghost use Rattle.capture_feed.specs.Reads.{HasLast, IsNext};
 ghost use Rattle.capture_feed.specs.Stages as spec;
-ghost use Rattle.pcapng.specs.Sections.{max_block};
+ghost use Rattle.pcapng.specs.Heads.{FitsItem};
 
-use crate::passing::Passing;
-use pcapng::{Block, Fault, HEAD_LEN, Head, MAX_BLOCK, Section};
+use crate::passing::{Last, Passing};
+use pcapng::{Block, Fault, HEAD_LEN, Head, Item, MAX_BLOCK, Section};
 
-/// How many bytes of a block are looked at.
-pub(crate) fn front_of(head: Head) -> usize
-    ensures value { result ≡ spec.front head }
-    ensures few { result ≤ max_block }
+/// What the last four bytes of a long block are.
+fn last_of(head: Head) -> Last
+    ensures { result ≡ spec.last_of head }
 {
-    (head.len as usize).min(MAX_BLOCK)
+    match head.item {
+        Item::Block(_) => Last::Length(head.order, head.len),
+        Item::Header(_) => Last::Any,
+        Item::Record => Last::Any,
+    }
 }
 
-/// What is passed over after them.
+/// What is passed over after the bytes of a block that are looked at.
 fn passing_of(head: Head) -> Option<Passing>
-    requires { head.len % 4 ≡ 0 }
+    requires { FitsItem head.item head.len }
     ensures value { result ≡ spec.passing_of head }
     ensures last { HasLast result }
 {
-    let Head { order, len, .. } = head;
-    if len as usize <= MAX_BLOCK {
+    if head.len as usize <= MAX_BLOCK {
         return None;
     }
     Some(Passing {
-        order,
-        len,
-        left: len - MAX_BLOCK as u32,
+        last: last_of(head),
+        left: head.len - head.front() as u32,
     })
 }
 
@@ -55,8 +56,8 @@ pub(crate) fn read_block<'a>(
     if bytes.len() < HEAD_LEN {
         return Ok(None);
     }
-    let head = Head::read(section.order(), &bytes[..HEAD_LEN])?;
-    let front = front_of(head);
+    let head = Head::read(section.began(), &bytes[..HEAD_LEN])?;
+    let front = head.front();
     if bytes.len() < front {
         return Ok(None);
     }

@@ -3,12 +3,12 @@
 ghost use Rattle.std.specs.Prelude.{◌≡◌, ◌<◌, ◌≤◌, ◌+◌, ◌++◌, [], IfErr, IfOk, IfSome, List, length, vec_capacity, ℕ};
 ghost use Rattle.capture_feed.specs.Reads.{IsFilled, IsTaken, seen};
 ghost use Rattle.capture_feed.specs.Stages.{block_next, refuses, waits};
-ghost use Rattle.pcapng.specs.Sections.{max_block};
+ghost use Rattle.pcapng.specs.Heads.{max_block};
 
 use crate::kept::fill;
 use crate::listener::Listen;
 use crate::passing::Passing;
-use crate::reading::{Read, front_of, read_block};
+use crate::reading::{Read, read_block};
 use pcapng::{Fault, HEAD_LEN, Head, MAX_BLOCK, Section};
 
 /// A block that was told: what is left of it, and the bytes after it.
@@ -69,8 +69,8 @@ fn fill_up<'a>(section: &Section, kept: &mut Vec<u8>, piece: &'a [u8]) -> Result
     if kept.len() < HEAD_LEN {
         return Ok(rest);
     }
-    match Head::read(section.order(), &kept.as_slice()[..HEAD_LEN]) {
-        Ok(head) => Ok(fill(kept, rest, front_of(head))),
+    match Head::read(section.began(), &kept.as_slice()[..HEAD_LEN]) {
+        Ok(head) => Ok(fill(kept, rest, head.front())),
         Err(fault) => Err(fault),
     }
 }

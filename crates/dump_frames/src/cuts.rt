@@ -2,9 +2,6 @@
 
 ghost use Rattle.std.specs.Prelude.{◌≤◌};
 
-use std::rt::Env;
-use std::{env, io};
-
 /// How the pieces are cut that a capture is fed in.
 #[derive(Clone, Copy)]
 pub(crate) struct Cuts {
@@ -15,6 +12,14 @@ pub(crate) struct Cuts {
 }
 
 impl Cuts {
+    /// Pieces of so many bytes, or each as it was read; with a chance, of up to so many.
+    pub(crate) fn new(piece: Option<u32>, chance: Option<u32>) -> Cuts {
+        Cuts {
+            piece: piece.unwrap_or(0) as usize,
+            chance,
+        }
+    }
+
     /// The length of the next piece, where so many bytes are left: 1 at least.
     pub(crate) fn length(&mut self, left: usize) -> usize
         ensures { result ≤ left }
@@ -30,21 +35,4 @@ impl Cuts {
         };
         length.min(left)
     }
-}
-
-/// How the arguments say that the capture is cut.
-pub(crate) fn given_cuts<R: Env + AllocGlobal>(rt: &R) -> Result<Cuts, io::Error> {
-    let mut cuts = Cuts {
-        piece: 0,
-        chance: None,
-    };
-    for (place, argument) in env::args(rt)?.enumerate() {
-        let number = argument.as_str().parse::<u32>().ok();
-        match place {
-            1 => cuts.piece = number.unwrap_or(1) as usize,
-            2 => cuts.chance = number,
-            _ => {}
-        }
-    }
-    Ok(cuts)
 }

@@ -4,7 +4,7 @@ use crate::wide::put_wide;
 use at_base::{Error, Hw};
 use capture_feed::{Block, Clock, Listen};
 use ethertalk::{Fault, Frame};
-use pcapng::{Described, Seen};
+use pcapng::{Described, Interface, Seen};
 use station::Kind;
 use std::alloc::AllocError;
 use std::io::Write;
@@ -38,18 +38,23 @@ fn put_who(text: &mut Vec<u8>, to: &Hw) -> Result<(), AllocError> {
     }
 }
 
-/// Appends an interface: its number, the name, which is in hexadecimal digits where it isn't of
-/// printable ASCII, and what its times are in.
-fn put_interface(text: &mut Vec<u8>, number: u32, it: &Described) -> Result<(), AllocError> {
-    put_number(text, b"interface ", number)?;
-    text.extend_from_slice(if it.interface.ethernet {
+/// Appends what the packets and the times of an interface are in.
+fn put_units(text: &mut Vec<u8>, interface: &Interface) -> Result<(), AllocError> {
+    text.extend_from_slice(if interface.ethernet {
         b" ethernet"
     } else {
         b" other"
     })?;
-    put_number(text, b" ", u32::from(it.interface.resolution))?;
+    put_number(text, b" ", u32::from(interface.resolution))?;
     text.extend_from_slice(b" ")?;
-    put_wide(text, it.interface.offset)?;
+    put_wide(text, interface.offset)
+}
+
+/// Appends an interface: its number, what its packets and times are in, and the name, which is in
+/// hexadecimal digits where it isn't of printable ASCII.
+fn put_interface(text: &mut Vec<u8>, number: u32, it: &Described) -> Result<(), AllocError> {
+    put_number(text, b"interface ", number)?;
+    put_units(text, &it.interface)?;
     match it.name {
         None => Ok(()),
         Some(name) => {
@@ -154,6 +159,10 @@ impl<W: Write> Lines<W> {
             Block::Section => {
                 self.interfaces = 0;
                 text.extend_from_slice(b"section")?;
+            }
+            Block::Classic(interface) => {
+                text.extend_from_slice(b"classic")?;
+                put_units(text, interface)?;
             }
             Block::Interface(described) => {
                 put_interface(text, self.interfaces, described)?;

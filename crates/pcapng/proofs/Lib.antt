@@ -3,3 +3,7 @@ pub mod Laid
 pub mod Values
 pub mod Shape
 pub mod Again
+pub mod Fronts
+pub mod Begun
+pub mod Spelled
+pub mod Printed

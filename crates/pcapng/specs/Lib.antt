@@ -1,8 +1,13 @@
 pub mod Fields
 pub mod Orders
 pub mod Times
+pub mod Packets
 pub mod Options
+pub mod Heads
+pub mod Classics
 pub mod Sections
 pub mod Reads
 pub mod Blocks
 pub mod Captures
+pub mod Spelled
+pub mod First

@@ -1,7 +1,8 @@
 -- What the values that borrow a block's bytes stand for.
 use Rattle.std.specs.Option.{option_copied}
 use Rattle.pcapng.specs.Options as options
-use Rattle.pcapng.specs.Sections.{Packed, Told, begins, beats, describes, packs, passes, skips}
+use Rattle.pcapng.specs.Packets.{Packed}
+use Rattle.pcapng.specs.Sections.{Told, begins, beats, describes, opens, packs, passes, skips}
 use Rattle.pcapng.specs.declared.block.Block.{Block as BlockValue}
 use Rattle.pcapng.specs.declared.block.Block.TheVariants as blocks
 use Rattle.pcapng.specs.declared.block.Seen.{Seen}
@@ -25,6 +26,7 @@ packed p = record {
 -- a block
 abbrev pub told : BlockValue → Told
 told blocks.Section = begins
+told (blocks.Classic interface) = opens interface
 told (blocks.Interface d) = describes (described d)
 told (blocks.Packet p) = packs (packed p)
 told (blocks.Heartbeat interface time) = beats interface time

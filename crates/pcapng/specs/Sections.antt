@@ -1,32 +1,32 @@
--- What the blocks of a section say. (Internet draft draft-ietf-opsawg-pcapng)
-use Rattle.std.specs.Prelude.{ℕ, ◌+◌, ◌-◌, ◌*◌, ◌%◌, ◌^◌, Bool, not, ◌==◌, ◌&&◌, ◌||◌, List, [], ◌∷◌, ◌++◌, Option, Some, None, Result, Ok}
-use Rattle.std.specs.Prelude.{Err, drop, fold, length, nat_lt, slice_get, take, if◌then◌else◌}
-use Rattle.std.specs.Int.{from_be_bytes, from_le_bytes, w16, w32}
+-- What the blocks of a capture say. (Internet draft draft-ietf-opsawg-pcapng)
+use Rattle.std.specs.Prelude.{ℕ, ◌+◌, ◌-◌, ◌*◌, ◌^◌, not, ◌==◌, ◌&&◌, true, List, [], ◌∷◌, ◌++◌, Result, Ok, Err, drop, fold, length}
+use Rattle.std.specs.Prelude.{nat_lt, take, if◌then◌else◌}
+use Rattle.std.specs.Int.{w16, w32}
 use Rattle.std.specs.List.{list_any}
 use Rattle.at_base.specs.Reading.{◌>>=◌, bytes_at}
+use Rattle.pcapng.specs.Classics.{header_in, record_in}
 use Rattle.pcapng.specs.Fields.{gap}
+use Rattle.pcapng.specs.Heads.{is_short, section_kind}
 use Rattle.pcapng.specs.Options.{Described, is_lost, options_of, plain, with_option}
 use Rattle.pcapng.specs.Orders.{number_in, number_of}
-use Rattle.pcapng.specs.Times.{time_of}
+use Rattle.pcapng.specs.Packets.{Packed, interface_at, time_on}
 use Rattle.pcapng.specs.declared.fault.Fault.{Fault}
 use Rattle.pcapng.specs.declared.fault.Fault.TheVariants as faults
+use Rattle.pcapng.specs.declared.form.Began.{Began}
+use Rattle.pcapng.specs.declared.form.Began.TheVariants as began
+use Rattle.pcapng.specs.declared.form.Forms.{Forms}
 use Rattle.pcapng.specs.declared.head.Head.{Head}
 use Rattle.pcapng.specs.declared.interface.Interface.{Interface}
+use Rattle.pcapng.specs.declared.item.Fraction.{Fraction}
+use Rattle.pcapng.specs.declared.item.Item.{Item}
+use Rattle.pcapng.specs.declared.item.Item.TheVariants.{Block, Header, Record}
 use Rattle.pcapng.specs.declared.order.Order.{Order}
-use Rattle.pcapng.specs.declared.order.Order.TheVariants.{Big, Little}
 
 -- the most interfaces of a section
 abbrev pub max_interfaces : ℕ
 max_interfaces = 256
 
--- the most bytes of a block that is read as a whole; of a longer one only so many are looked at
-abbrev pub max_block : ℕ
-max_block = 2048
-
--- the types of blocks that are read: a section header, an interface, a packet, statistics
-abbrev pub section_kind : ℕ
-section_kind = 0x0A0D0D0A
-
+-- the types of blocks that are read, beside section headers: an interface, a packet, statistics
 abbrev pub interface_kind : ℕ
 interface_kind = 1
 
@@ -36,64 +36,33 @@ packet_kind = 6
 abbrev pub statistics_kind : ℕ
 statistics_kind = 5
 
--- ---- the head of a block
-
--- the order of bytes in which this number is the byte-order magic
-abbrev pub magic_order : List ℕ → Result Order Fault
-magic_order bytes =
-    if from_be_bytes w32 bytes == 0x1A2B3C4D then Ok Big
-    else if from_le_bytes w32 bytes == 0x1A2B3C4D then Ok Little
-    else Err faults.Order
-
--- the order of a section that was begun
-abbrev pub order_before : Option Order → Result Order Fault
-order_before None = Err faults.Order
-order_before (Some order) = Ok order
-
--- the order of a block with this type: a section header has its own, and the type of one is the same in both orders
-abbrev pub order_for : Option Order → List ℕ → List ℕ → Result Order Fault
-order_for before kind magic = if from_be_bytes w32 kind == section_kind then magic_order magic else order_before before
-
--- the head with this length, which counts the whole block
-abbrev pub checked_head : Order → ℕ → ℕ → Result Head Fault
-checked_head order kind len =
-    if nat_lt len 12 || not (len % 4 == 0) then Err faults.Length else Ok (record { order = order; kind = kind; len = len })
-
--- the head of a block, from its first twelve bytes, after blocks of this order
-abbrev pub head_of : Option Order → List ℕ → Result Head Fault
-head_of before bytes =
-    bytes_at faults.Cut 4 bytes >>= λ kind. bytes_at faults.Cut 4 kind.1 >>= λ len. bytes_at faults.Cut 4 len.1 >>= λ magic.
-    order_for before kind.0 magic.0 >>= λ order. checked_head order (number_in order w32 kind.0) (number_in order w32 len.0)
-
--- ---- sections
-
--- a section: the order of its bytes, none before the first section header, and its interfaces by number
+-- what the blocks of a capture are read by: what it began as, and the interfaces of its section, or of all of it, by number
 pub record Section : Type 0 where
-  pub order : Option Order
+  pub began : Began
   pub interfaces : List Interface
 
--- the interface with this number
-abbrev pub interface_at : List Interface → ℕ → Result Interface Fault
-interface_at interfaces index = found (slice_get interfaces index)
-  where
-    found : Option Interface → Result Interface Fault
-    found None = Err faults.Interface
-    found (Some i) = Ok i
+-- a capture of which nothing was read, in one of these forms
+abbrev pub unread : Forms → Section
+unread forms = record { began = began.Nothing forms; interfaces = [] }
 
--- a packet: its interface by number, its time, whether it is an Ethernet frame, whether all of it was captured, whether
--- the frame was lost, and its bytes
-pub record Packed : Type 0 where
-  pub interface : ℕ
-  pub time : ℕ
-  pub ethernet : Bool
-  pub whole : Bool
-  pub lost : Bool
-  pub bytes : List ℕ
+-- a pcapng capture, in a section of this order of bytes with these interfaces
+abbrev pub pcapng : Order → List Interface → Section
+pcapng order interfaces = record { began = began.Pcapng order; interfaces = interfaces }
+
+-- a classic capture in this order of bytes, with its one interface
+abbrev pub classic : Order → Interface → Section
+classic order i = record { began = began.Classic order; interfaces = i ∷ [] }
+
+-- an Ethernet whose times are in microseconds
+abbrev pub ethernet : Interface
+ethernet = record { ethernet = true; resolution = 6; offset = 0 }
 
 -- what a block says
 pub data Told : Type 0 where
   -- a section begins, whose interfaces are numbered anew
   begins : Told
+  -- a classic capture begins, and this is its one interface
+  opens : Interface → Told
   -- an interface is described: the next one of its section
   describes : Described → Told
   -- a packet
@@ -105,19 +74,17 @@ pub data Told : Type 0 where
   -- anything else
   skips : Told
 
+-- ---- blocks of pcapng
+
 -- a number of two words, the higher one first
 abbrev pub two_words : ℕ → ℕ → ℕ
 two_words high low = high * 2 ^ 32 + low
-
--- the time of a block of an interface
-abbrev pub time_on : Interface → ℕ → ℕ
-time_on i units = time_of units i.resolution i.offset
 
 -- a section header: the magic number, the version, which has to be 1, and the length of the section, which isn't used
 abbrev pub section_body : Order → List ℕ → Result (Told × Section) Fault
 section_body order body =
     bytes_at faults.Cut 4 body >>= λ magic. number_of order w16 magic.1 >>= λ major. bytes_at faults.Cut 10 major.1 >>= λ rest.
-    (if major.0 == 1 then Ok (begins, record { order = Some order; interfaces = [] }) else Err faults.Version)
+    (if major.0 == 1 then Ok (begins, pcapng order []) else Err faults.Version)
 
 -- an interface: its link type (1 is Ethernet), a limit, which isn't used, and options
 abbrev pub described_in : Order → List ℕ → Result Described Fault
@@ -156,24 +123,20 @@ statistics_in interfaces order body =
     number_of order w32 body >>= λ index. number_of order w32 index.1 >>= λ high. number_of order w32 high.1 >>= λ low.
     interface_at interfaces index.0 >>= λ i. Ok (index.0, time_on i (two_words high.0 low.0))
 
--- a block is read as a whole
-abbrev pub is_short : Head → Bool
-is_short h = not (nat_lt max_block h.len)
-
--- what a block with this head says, where it changes nothing of the section
-abbrev pub other_in : List Interface → Head → List ℕ → Result Told Fault
-other_in interfaces h body =
-    if h.kind == packet_kind && is_short h then (packet_in interfaces h.order body >>= λ p. Ok (packs p))
-    else if h.kind == packet_kind then Ok passes
-    else if h.kind == statistics_kind && is_short h then (statistics_in interfaces h.order body >>= λ b. Ok (beats b.0 b.1))
+-- what a block of this type says, where it changes nothing of the section
+abbrev pub other_in : List Interface → Head → ℕ → List ℕ → Result Told Fault
+other_in interfaces h kind body =
+    if kind == packet_kind && is_short h then (packet_in interfaces h.order body >>= λ p. Ok (packs p))
+    else if kind == packet_kind then Ok passes
+    else if kind == statistics_kind && is_short h then (statistics_in interfaces h.order body >>= λ b. Ok (beats b.0 b.1))
     else Ok skips
 
--- what a block with this head says, from the bytes between its two lengths, or as many of these as are looked at
-abbrev pub body_of : Section → Head → List ℕ → Result (Told × Section) Fault
-body_of s h body =
-    if h.kind == section_kind then section_body h.order body
-    else if h.kind == interface_kind then described_by s h.order body
-    else (other_in s.interfaces h body >>= λ t. Ok (t, s))
+-- what a block of this type says, from the bytes between its two lengths, or as many of these as are looked at
+abbrev pub body_of : Section → Head → ℕ → List ℕ → Result (Told × Section) Fault
+body_of s h kind body =
+    if kind == section_kind then section_body h.order body
+    else if kind == interface_kind then described_by s h.order body
+    else (other_in s.interfaces h kind body >>= λ t. Ok (t, s))
 
 -- What is between the two lengths of a block, which have to agree. Of a long block only its first bytes are there, and
 -- its second length isn't.
@@ -183,6 +146,26 @@ between h bytes =
     else if number_in h.order w32 (drop (h.len - 4) bytes) == h.len then Ok (drop 8 (take (h.len - 4) bytes))
     else Err faults.Length
 
+-- ---- classic captures
+
+-- what a classic capture's header says: the capture has one interface
+abbrev pub opened : Order → Fraction → List ℕ → Result (Told × Section) Fault
+opened order fraction bytes =
+    header_in order fraction bytes >>= λ i. Ok (opens i, classic order i)
+
+-- what a record says: a packet on that interface
+abbrev pub recorded : List Interface → Head → List ℕ → Result Told Fault
+recorded interfaces h bytes =
+    if is_short h then (interface_at interfaces 0 >>= λ i. record_in i h.order bytes >>= λ p. Ok (packs p)) else Ok passes
+
+-- ---- captures
+
+-- what a block says that is this item of a capture
+abbrev pub item_of : Section → Head → Item → List ℕ → Result (Told × Section) Fault
+item_of s h (Block kind) bytes = between h bytes >>= λ body. body_of s h kind body
+item_of s h (Header fraction) bytes = opened h.order fraction bytes
+item_of s h Record bytes = recorded s.interfaces h bytes >>= λ t. Ok (t, s)
+
 -- what a block with this head says, from all its bytes, or from the first bytes of a long one
 abbrev pub block_of : Section → Head → List ℕ → Result (Told × Section) Fault
-block_of s h bytes = between h bytes >>= λ body. body_of s h body
+block_of s h bytes = item_of s h h.item bytes

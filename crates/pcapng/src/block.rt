@@ -1,5 +1,6 @@
 //! What blocks say.
 
+use crate::interface::Interface;
 use crate::options::Described;
 
 /// A packet, in place.
@@ -24,6 +25,8 @@ pub struct Seen<'a> {
 pub enum Block<'a> {
     /// A section begins; its interfaces are numbered anew.
     Section,
+    /// A classic capture begins, and this is its one interface, number 0. It has no name.
+    Classic(Interface),
     /// An interface is described: the next one of its section.
     Interface(Described<'a>),
     /// A packet was seen.
@@ -31,7 +34,7 @@ pub enum Block<'a> {
     /// Statistics of an interface, by its number: a heartbeat, of which only the time counts, in
     /// microseconds from the beginning of 1970.
     Heartbeat(u32, u64),
-    /// A packet whose block is too long to be read.
+    /// A packet whose block, or record, is too long to be read.
     TooLong,
     /// Anything else.
     Other,

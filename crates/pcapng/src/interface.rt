@@ -1,8 +1,10 @@
 //! The interfaces of a section.
 
 ghost use Rattle.std.specs.Prelude.{◌≡◌, ◌<◌, ◌≤◌, [], ◌∷◌, ◌++◌, length, slice_get};
+ghost use Rattle.pcapng.specs.Packets.{time_on};
 ghost use Rattle.pcapng.specs.Sections.{max_interfaces};
 
+use crate::times::time_of;
 use std::marker::Model;
 
 /// The most interfaces of a section.
@@ -30,6 +32,13 @@ impl Interface {
             resolution: 6,
             offset: 0,
         }
+    }
+
+    /// The time that is so many of its units, in microseconds from the beginning of 1970.
+    pub(crate) fn time(self, units: u64) -> u64
+        ensures { result ≡ time_on self units }
+    {
+        time_of(units, self.resolution, self.offset)
     }
 }
 

@@ -1,19 +1,22 @@
 //! Sections: reading blocks, one after the other.
 
-ghost use Rattle.std.specs.Prelude.{◌≡◌, ◌≤◌, [], OnErr, Some, None, length, min};
+ghost use Rattle.std.specs.Prelude.{◌≡◌, ◌≤◌, [], OnErr, length};
 ghost use Rattle.at_base.specs.Reading.{Gives};
+ghost use Rattle.pcapng.specs.Heads as heads_spec;
+ghost use Rattle.pcapng.specs.Packets as packets_spec;
 ghost use Rattle.pcapng.specs.Reads as reads_spec;
 ghost use Rattle.pcapng.specs.Reads.{packed, told};
 ghost use Rattle.pcapng.specs.Sections as spec;
-ghost use Rattle.pcapng.specs.Sections.{max_block};
 
 use crate::block::{Block, Seen};
+use crate::classic::{header, record};
 use crate::fault::Fault;
+use crate::form::{Began, Forms};
 use crate::head::{Head, MAX_BLOCK, SECTION};
 use crate::interface::{Interface, Interfaces, MAX_INTERFACES};
+use crate::item::{Fraction, Item};
 use crate::options::{Described, says_lost, with_options};
 use crate::order::{Order, run_of};
-use crate::times::time_of;
 use std::marker::Model;
 
 /// The types of the other blocks that are read.
@@ -23,11 +26,10 @@ const STATISTICS: u32 = 5;
 
 const PACKET: u32 = 6;
 
-/// What the blocks of a capture are read by: the order of the bytes of their section, and its
-/// interfaces.
+/// What the blocks of a capture are read by: what it began as, and the interfaces of its section.
 #[derive(Debug, Drop)]
 pub struct Section {
-    order: Option<Order>,
+    began: Began,
     interfaces: Interfaces,
 }
 
@@ -37,13 +39,13 @@ impl Model for Section {
 
     ghost Value = { SectionValue };
 
-    ghost view = { λ s. record { order = s.order; interfaces = s.interfaces } };
+    ghost view = { λ s. record { began = s.began; interfaces = s.interfaces } };
 
     ghost invariant = { λ s. length s.interfaces ≤ max_interfaces };
 }
 
 fn interface_at(interfaces: &[Interface], index: u32) -> Result<Interface, Fault>
-    ensures { Gives (λ i. i) result (spec.interface_at interfaces.now index) }
+    ensures { Gives (λ i. i) result (packets_spec.interface_at interfaces.now index) }
 {
     match interfaces.get(index as usize) {
         Some(interface) => Ok(*interface),
@@ -52,15 +54,14 @@ fn interface_at(interfaces: &[Interface], index: u32) -> Result<Interface, Fault
 }
 
 fn time_on(interface: Interface, high: u32, low: u32) -> u64
-    ensures { result ≡ spec.time_on interface (spec.two_words high low) }
+    ensures { result ≡ packets_spec.time_on interface (spec.two_words high low) }
 {
-    let units = (u64::from(high) << 32) + u64::from(low);
-    time_of(units, interface.resolution, interface.offset)
+    interface.time((u64::from(high) << 32) + u64::from(low))
 }
 
 /// Whether a section header's version can be read.
 fn check_section(order: Order, body: &[u8]) -> Result<(), Fault>
-    ensures { Gives (λ x. (spec.begins, record { order = Some order; interfaces = [] })) result
+    ensures { Gives (λ x. (spec.begins, spec.pcapng order [])) result
         (spec.section_body order body.now) }
 {
     let (_, rest) = run_of(body, 4)?;
@@ -114,7 +115,7 @@ fn heartbeat(interfaces: &[Interface], order: Order, body: &[u8]) -> Result<(u32
 /// What is between the two lengths of a block, from all its bytes, or from the first ones of a long
 /// one. Error: `Length` where the two lengths differ.
 fn between(head: Head, bytes: &[u8]) -> Result<&[u8], Fault>
-    requires there { length bytes.now ≡ min head.len max_block }
+    requires there { length bytes.now ≡ heads_spec.front head }
     requires least { 12 ≤ head.len }
     ensures { Gives (λ b. b.now) result (spec.between head bytes.now) }
 {
@@ -129,34 +130,34 @@ fn between(head: Head, bytes: &[u8]) -> Result<&[u8], Fault>
 }
 
 impl Section {
-    /// No section: what comes first has to be a section header.
-    pub fn new() -> Section
-        ensures { result ≡ record { order = None; interfaces = [] } }
+    /// A capture of which nothing was read: it has to begin in one of these forms.
+    pub fn new(forms: Forms) -> Section
+        ensures { result ≡ spec.unread forms }
     {
         Section {
-            order: None,
+            began: Began::Nothing(forms),
             interfaces: Interfaces::new(),
         }
     }
 
-    /// The order of the bytes of its numbers, if it was begun.
-    pub fn order(&self) -> Option<Order>
-        ensures { result ≡ self.now.order }
+    /// What the capture began as.
+    pub fn began(&self) -> Began
+        ensures { result ≡ self.now.began }
     {
-        self.order
+        self.began
     }
 
-    /// The interfaces that were described, by number.
+    /// The interfaces that were described, by number; of a classic capture its one interface.
     pub fn interfaces(&self) -> &[Interface]
         ensures { result.now ≡ self.now.interfaces }
     {
         self.interfaces.as_slice()
     }
 
-    fn begin(&mut self, order: Order)
-        ensures { self.new ≡ record { order = Some order; interfaces = [] } }
+    fn begin(&mut self, began: Began)
+        ensures { self.new ≡ record { began = began; interfaces = [] } }
     {
-        self.order = Some(order);
+        self.began = began;
         self.interfaces.clear();
     }
 
@@ -167,7 +168,7 @@ impl Section {
         ensures stays { OnErr result (self.new ≡ self.old) }
     {
         check_section(order, body)?;
-        self.begin(order);
+        self.begin(Began::Pcapng(order));
         Ok(())
     }
 
@@ -195,55 +196,88 @@ impl Section {
         Ok(described)
     }
 
+    /// A classic capture begins, with its one interface. Errors: `Cut`, `Version`.
+    fn open(&mut self, order: Order, fraction: Fraction, bytes: &[u8]) -> Result<Interface, Fault>
+        ensures gives { Gives (λ i. (spec.opens i, self.new)) result
+            (spec.opened order fraction bytes.now) }
+        ensures stays { OnErr result (self.new ≡ self.old) }
+    {
+        let interface = header(order, fraction, bytes)?;
+        self.begin(Began::Classic(order));
+        self.interfaces.push(interface);
+        Ok(interface)
+    }
+
+    /// What a record of a classic capture says.
+    fn record<'a>(&self, head: Head, bytes: &'a [u8]) -> Result<Block<'a>, Fault>
+        ensures { Gives told result (spec.recorded self.now.interfaces head bytes.now) }
+    {
+        if head.len as usize > MAX_BLOCK {
+            return Ok(Block::TooLong);
+        }
+        let interface = interface_at(self.interfaces.as_slice(), 0)?;
+        let seen = record(interface, head.order, bytes)?;
+        Ok(Block::Packet(seen))
+    }
+
     /// What a block says that changes nothing of the section.
-    fn other<'a>(&self, head: Head, body: &'a [u8]) -> Result<Block<'a>, Fault>
-        ensures { Gives told result (spec.other_in self.now.interfaces head body.now) }
+    fn other<'a>(&self, head: Head, kind: u32, body: &'a [u8]) -> Result<Block<'a>, Fault>
+        ensures { Gives told result (spec.other_in self.now.interfaces head kind body.now) }
     {
         let is_short = head.len as usize <= MAX_BLOCK;
-        if head.kind == PACKET && is_short {
+        if kind == PACKET && is_short {
             let seen = packet(self.interfaces.as_slice(), head.order, body)?;
             return Ok(Block::Packet(seen));
         }
-        if head.kind == PACKET {
+        if kind == PACKET {
             return Ok(Block::TooLong);
         }
-        if head.kind == STATISTICS && is_short {
+        if kind == STATISTICS && is_short {
             let (index, time) = heartbeat(self.interfaces.as_slice(), head.order, body)?;
             return Ok(Block::Heartbeat(index, time));
         }
         Ok(Block::Other)
     }
 
-    /// What a block says, from the bytes between its two lengths.
-    fn body<'a>(&mut self, head: Head, body: &'a [u8]) -> Result<Block<'a>, Fault>
+    /// What a block of pcapng says, from the bytes between its two lengths.
+    fn body<'a>(&mut self, head: Head, kind: u32, body: &'a [u8]) -> Result<Block<'a>, Fault>
         ensures gives { Gives (λ b. (told b, self.new)) result
-            (spec.body_of self.old head body.now) }
+            (spec.body_of self.old head kind body.now) }
         ensures stays { OnErr result (self.new ≡ self.old) }
     {
-        if head.kind == SECTION {
+        if kind == SECTION {
             self.begin_by(head.order, body)?;
             return Ok(Block::Section);
         }
-        if head.kind == INTERFACE {
+        if kind == INTERFACE {
             let described = self.describe_by(head.order, body)?;
             return Ok(Block::Interface(described));
         }
-        self.other(head, body)
+        self.other(head, kind, body)
     }
 
-    /// What the block with this head says: the bytes are all of it, or of a block longer than 2,048
-    /// bytes the first 2,048.
+    /// What the block with this head says: the bytes are all of it, or of a longer one as many of its
+    /// first bytes as are looked at.
     ///
     /// Errors: `Length` where its two lengths differ; `Cut` where it is too short for its fields;
     /// `Version` and `Interface`. After an error the section is as before.
     pub fn block<'a>(&mut self, head: Head, bytes: &'a [u8]) -> Result<Block<'a>, Fault>
-        requires there { length bytes.now ≡ min head.len max_block }
+        requires there { length bytes.now ≡ heads_spec.front head }
         requires least { 12 ≤ head.len }
         ensures gives { Gives (λ b. (told b, self.new)) result
             (spec.block_of self.old head bytes.now) }
         ensures stays { OnErr result (self.new ≡ self.old) }
     {
-        let body = between(head, bytes)?;
-        self.body(head, body)
+        match head.item {
+            Item::Block(kind) => {
+                let body = between(head, bytes)?;
+                self.body(head, kind, body)
+            }
+            Item::Header(fraction) => {
+                let interface = self.open(head.order, fraction, bytes)?;
+                Ok(Block::Classic(interface))
+            }
+            Item::Record => self.record(head, bytes),
+        }
     }
 }

@@ -129,6 +129,7 @@ fn laws_are_called() {
     atp::the_end_may_come_early();
     atp::a_kept_answer_lasts();
     cable_model::taking_ends_one_pair();
+    capture_feed::first_block_comes();
     ddp::written_is_read();
     ddp::hops_leave_the_body();
     ddp::set_hops_are_read();
@@ -139,5 +140,10 @@ fn laws_are_called() {
     nbp::requests_have_one_tuple();
     nbp::functions_leave_the_key();
     nbp::trailing_bytes_leave_the_key();
+    pcapng::section_begins();
+    pcapng::interface_is_described();
+    pcapng::packet_is_seen();
+    pcapng::header_is_opened();
+    pcapng::record_is_seen();
     rtmp::data_is_read_back();
 }

@@ -1,7 +1,7 @@
 //! The example of the README of `capture_feed`.
 
 use at_base::Error;
-use capture_feed::{Block, Feed, Listen};
+use capture_feed::{Block, Feed, Forms, Listen};
 use std::alloc::Global;
 
 /// Counts packets.
@@ -22,7 +22,7 @@ impl Listen for Count {
 
 /// How many packets a capture has that comes in two pieces.
 fn packets_in(alloc: Global, first: &[u8], second: &[u8]) -> Result<u32, Error> {
-    let mut feed = Feed::new(alloc)?;
+    let mut feed = Feed::new(alloc, Forms::Either)?;
     let mut count = Count { packets: 0 };
     feed.feed(first, &mut count)?;
     feed.feed(second, &mut count)?;

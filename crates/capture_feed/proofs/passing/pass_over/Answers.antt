@@ -1,7 +1,6 @@
-use Rattle.std.proofs.Common.{◌∙◌, ◌<◌, ◌≤◌, ap, arith, length, refl}
-use Rattle.std.specs.Int.{w32}
+use Rattle.std.proofs.Common.{◌∙◌, ◌<◌, ◌≤◌, ap, arith, length, refl, sym}
 use Rattle.capture_feed.proofs.Skipping.{agrees, differs, keeps_on, no_more, still_pending, within}
-use Rattle.pcapng.specs.Orders.{number_in}
+use Rattle.capture_feed.specs.Stages.{is_last}
 use Rattle.capture_feed.proofs.passing.pass_over.Goals as goal
 
 pub returns-then-len-lt-LAST_LEN-clause-passed : goal.returns-then-len-lt-LAST_LEN-clause-passed
@@ -13,21 +12,21 @@ returns-then-len-lt-LAST_LEN-clause-passed c =
       still_pending _ _ _ _ _ _ _ c.requires.keeps c.skip.ensures f.all f.most f.rest low,
     )
 
-pub returns-then-four_in-before-clause-passed : goal.returns-then-four_in-before-clause-passed
-returns-then-four_in-before-clause-passed c =
+pub returns-then-not-is_last-clause-passed : goal.returns-then-not-is_last-clause-passed
+returns-then-not-is_last-clause-passed c =
     let enough : 4 ≤ length c.fill-rest.new.kept.items = omega (arith, c.if-len-lt-LAST_LEN.false) in
     let f = c.fill-rest.ensures in
-    let number = c.four_in.ensures ∙ ap (number_in c.args.before.order w32) c.as_slice.ensures.value in
-    differs _ _ _ _ _ _ _ c.requires.keeps c.skip.ensures f.all f.most f.rest enough c.four_in.result number c.if-four_in-before.true
+    let other = ap (is_last c.args.before.last) (sym c.as_slice.ensures.value) ∙ (sym c.is_last.ensures ∙ c.if-not-is_last.true) in
+    differs _ _ _ _ _ _ _ c.requires.keeps c.skip.ensures f.all f.most f.rest enough other
 
 pub returns-clause-passed : goal.returns-clause-passed
 returns-clause-passed c =
     let enough : 4 ≤ length c.fill-rest.new.kept.items = omega (arith, c.if-len-lt-LAST_LEN.false) in
     let f = c.fill-rest.ensures in
-    let number = c.four_in.ensures ∙ ap (number_in c.args.before.order w32) c.as_slice.ensures.value in (
+    let right = ap (is_last c.args.before.last) (sym c.as_slice.ensures.value) ∙ (sym c.is_last.ensures ∙ c.if-not-is_last.false) in (
       refl,
       c.clear.ensures.items,
-      agrees _ _ _ _ _ _ _ c.requires.keeps c.skip.ensures f.all f.most f.rest enough c.four_in.result number c.if-four_in-before.false,
+      agrees _ _ _ _ _ _ _ c.requires.keeps c.skip.ensures f.all f.most f.rest enough right,
     )
 
 pub returns-clause-fewer : goal.returns-clause-fewer

@@ -2,7 +2,7 @@ use Rattle.std.proofs.Common.{◌∙◌, ◌++◌, ◌<◌, List, Ok, ap, length
 use Rattle.capture_feed.proofs.Growing.{kept_all, refused_on, told_on, waits_few}
 use Rattle.capture_feed.specs.Reads.{IsNext}
 use Rattle.capture_feed.specs.Stages.{block_next}
-use Rattle.pcapng.specs.Sections.{max_block}
+use Rattle.pcapng.specs.Heads.{max_block}
 use Rattle.capture_feed.proofs.taking.take_here.Goals as goal
 
 pub returns-in-Ok-Some-clause-taken : goal.returns-in-Ok-Some-clause-taken
