@@ -1,0 +1,4 @@
+pub mod Plain
+pub mod Standing
+pub mod Hears
+pub mod Resting

@@ -1,0 +1,10 @@
+//! Laws of plays whose tables are settled: the routers of a world keep the ranges and distances of
+//! their rows, tick after tick.
+#![tactic(auto)]
+
+mod laws;
+
+pub use laws::{
+    a_tick_ages_and_tells, a_tick_stays_settled, plain_frames_leave_tables,
+    routing_data_moves_rows, ticks_between_ageings_stay_settled,
+};
