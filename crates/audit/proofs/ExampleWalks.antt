@@ -4,7 +4,7 @@ use Rattle.audit.specs.Routing.{On, hand, home, distance}
 use Rattle.table_image.specs.declared.port.Port.{Port}
 use Rattle.table_image.specs.declared.router.Router.{Router}
 use Rattle.audit.specs.Rules.{Passes, Keeps}
-use Rattle.audit.specs.Walks.{IsWalk, AreDifferent, WalksHome, HasPort, Steps, Stops, Goes, SeatsAreUnique}
+use Rattle.audit.specs.Walks.{IsWalk, AreDifferent, WalksHome, HasPort, Steps, Stops, StepsTo, SeatsAreUnique}
 use Rattle.audit.specs.Example.{addr, three_cables, turned_router, pointing_at_each_other, same_addresses, same_hardware_addresses}
 use Rattle.audit.proofs.ExamplePlaces.{keeps_others, passes}
 
@@ -54,7 +54,7 @@ no_walk_home walks =
 
 pub no_step : ¬ Steps pointing_at_each_other 30 2 0
 no_step (Stops here near port) = let e = sym first_hands_on ∙ here in cc
-no_step (Goes s d a on owner within near port next_port other) =
+no_step (StepsTo s d a on owner within near port next_port other) =
     let e = sym first_hands_on ∙ on in
     let next : s ≡ 1 = cc in
     let nearer : distance pointing_at_each_other 1 30 + 1 ≡ distance pointing_at_each_other 0 30 =

@@ -3,7 +3,7 @@ use Rattle.std.proofs.Common.{◌≡◌, ℕ, zero, suc, ◌<◌, ◌≤◌, Lis
 use Rattle.table_image.specs.Internet.{Internet}
 use Rattle.audit.specs.Routing.{home, distance}
 use Rattle.audit.specs.Rules.{Passes}
-use Rattle.audit.specs.Walks.{IsWalk, NotAmong, AreDifferent, WalksHome, Stops, Goes}
+use Rattle.audit.specs.Walks.{IsWalk, NotAmong, AreDifferent, WalksHome, Stops, StepsTo}
 use Rattle.audit.proofs.WalkSteps.{steps, near}
 
 -- each router is nearer than d
@@ -33,12 +33,12 @@ module _ (i : Internet) (ok : Passes i) (n c : ℕ) (listed : home i n ≡ Some 
   goes_home zero r far within =
       elim (steps i ok r n c within listed) [
         | Stops here none port ↦ record { rest = []; walk = here; nearer = tt; different = tt; long = sym none }
-        | Goes s e a on own le less port theirs apart ↦ absurd (omega arith)
+        | StepsTo s e a on own le less port theirs apart ↦ absurd (omega arith)
       ]
   goes_home (suc d) r far within =
       elim (steps i ok r n c within listed) [
         | Stops here none port ↦ record { rest = []; walk = here; nearer = tt; different = tt; long = sym none }
-        | Goes s e a on own le less port theirs apart ↦
+        | StepsTo s e a on own le less port theirs apart ↦
             let f = goes_home d s (omega arith) le in
             record {
               rest = s ∷ f.rest;

@@ -20,7 +20,7 @@ use Rattle.table_image.specs.declared.row.Row.{Row}
 use Rattle.table_image.specs.declared.router.Router.{Router}
 use Rattle.audit.specs.Rules.{end_before, at_row, is_for, cable_of, bad_range, lacks_row, port_on, bad_direct, next_router, is_no_other}
 use Rattle.audit.specs.Rules.{same_row, bad_step, Passes}
-use Rattle.audit.specs.Walks.{Steps, Stops, Goes, HasPort}
+use Rattle.audit.specs.Walks.{Steps, Stops, StepsTo, HasPort}
 use Rattle.audit.proofs.WalkLists.{At, at_below, at_one, index_at, index_found, find_at, find_found, find_agree, find_none}
 use Rattle.audit.proofs.CableOrder.{good_at, rising, only_cable}
 use Rattle.audit.proofs.WalkFacts.{GoodCable, between_is, is_between_when, for_is, same_bool, some_of, not_both, direct_is, indirect_is}
@@ -249,7 +249,7 @@ module _ (i : Internet) (ok : Passes i) where
       ∙ step_good r t.place_of router row er t.at indirect) in
       let mine = distance_is r router n row er t.found in
       let theirs = distance_is s w.0 n less.0 w.1 (their_row s w.0 n c t.cable row less.0 w.1 t.at_cable t.holds t.same less.1) in
-      Goes s port.cable row.next
+      StepsTo s port.cable row.next
       (goes_to r router n row port s er t.found via.1 indirect via.2)
       via.2
       known.1

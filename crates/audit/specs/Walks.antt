@@ -52,10 +52,10 @@ pub record HasPort (i : Internet) (r c : ℕ) : Type 0 where
   pub on : port.cable ≡ c
 
 -- A step of router r for a network n whose home is cable c: r puts the datagram on c, at distance 0 and with a port on
--- c (Stops), or hands it on to a router that is one nearer, over another cable on which both have a port (Goes).
+-- c (Stops), or hands it on to a router that is one nearer, over another cable on which both have a port (StepsTo).
 pub data Steps (i : Internet) (n c r : ℕ) : Type 0 where
   Stops : hand i r n ≡ Here c → distance i r n ≡ 0 → HasPort i r c → Steps i n c r
-  Goes : (s d : ℕ) (a : Addr) → hand i r n ≡ On s d a → owner i d a ≡ Some s → s < length i.routers → distance i s n + 1 ≡ distance i r n
+  StepsTo : (s d : ℕ) (a : Addr) → hand i r n ≡ On s d a → owner i d a ≡ Some s → s < length i.routers → distance i s n + 1 ≡ distance i r n
       → HasPort i r d → HasPort i s d → d ≢ c → Steps i n c r
 
 -- No two seats have the same address, no two seats on a cable have the same hardware address, and no station has two

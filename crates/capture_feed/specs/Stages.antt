@@ -36,6 +36,7 @@ last_as (Block kind) order len = lasts.Length order len
 last_as (Header fraction) order len = lasts.Any
 last_as Record order len = lasts.Any
 
+-- what the last four bytes of the long block with this head are
 abbrev pub last_of : Head → Last
 last_of h = last_as h.item h.order h.len
 

@@ -4,7 +4,7 @@ use Rattle.clap.specs.Words.{Row, Shape, Text, first_of, subcommand_of, takes}
 use Rattle.clap.specs.Walk.{Walk, value, walked, nothing_held, rows_after}
 use Rattle.clap.specs.Takes.{level_passes}
 use Rattle.clap.proofs.OnLiterals.{clap_on_literals}
-use Rattle.command_line.specs.Arguments.{IsMeant, Plays, Traces, atalk_app, capture_to_words, capture_words, is_operand}
+use Rattle.command_line.specs.Arguments.{IsMeant, AsksForPlay, Traces, atalk_app, capture_to_words, capture_words, is_operand}
 use Rattle.command_line.specs.Arguments.{trace_to_words, version_by}
 use Rattle.command_line.specs.declared.arguments.Job.{Job}
 use Rattle.command_line.proofs.CommandLine.{trace_of_rows, trace_shape}
@@ -142,7 +142,7 @@ captured_capture file capture = refl
 -- `play FILE --capture CAPTURE` is a play whose capture is written to CAPTURE.
 pub capture_meant : (name file capture : Text) (job : Job) → is_operand file ≡ true → is_operand capture ≡ true
     → IsMeant (subcommand_of atalk_app (name ∷ codes "play" ∷ capture_words file capture)) job
-    → Plays (Some file) None None (Some capture) job
+    → AsksForPlay (Some file) None None (Some capture) job
 capture_meant name file capture job first second meant =
     let end = capture_end file capture in
     let line = whole_line play_shape (capture_words file capture) end (capture_leads file capture first second)
@@ -217,7 +217,7 @@ captured_to_capture file out capture = refl
 -- `play FILE --image OUT --capture CAPTURE` is a play whose image is written to OUT, and whose capture to CAPTURE.
 pub capture_to_meant : (name file out capture : Text) (job : Job) → is_operand file ≡ true → is_operand out ≡ true
     → is_operand capture ≡ true → IsMeant (subcommand_of atalk_app (name ∷ codes "play" ∷ capture_to_words file out capture)) job
-    → Plays (Some file) (Some out) None (Some capture) job
+    → AsksForPlay (Some file) (Some out) None (Some capture) job
 capture_to_meant name file out capture job first second third meant =
     let end = capture_to_end file out capture in
     let line = whole_line play_shape (capture_to_words file out capture) end (capture_to_leads file out capture first second third)

@@ -5,7 +5,7 @@ use Rattle.clap.specs.Words.{Row, Shape, Text, built, first_of, subcommand_of, t
 use Rattle.clap.specs.Walk.{Walk, value, walked, walk_from, nothing_held, rows_after}
 use Rattle.clap.specs.Takes.{level_passes}
 use Rattle.clap.proofs.OnLiterals.{clap_on_literals}
-use Rattle.command_line.specs.Arguments.{IsMeant, Place, Plays, atalk_app, is_operand, play_app, play_to_words, play_words}
+use Rattle.command_line.specs.Arguments.{IsMeant, Place, AsksForPlay, atalk_app, is_operand, play_app, play_to_words, play_words}
 use Rattle.command_line.specs.Arguments.{version_at, version_by}
 use Rattle.command_line.specs.Arguments.Place.{Nowhere, BeforeFile, AfterFile, AtEnd}
 use Rattle.command_line.specs.declared.arguments.Job.{Job}
@@ -34,7 +34,7 @@ after_image w = walked play_shape.rules [] w (codes "--image")
 abbrev pub after_out : Text → Walk → Walk
 after_out out w = walk_by play_shape w out (as_value play_shape (codes "OUT") out w.held)
 
--- ---- Plays whose image isn't written
+-- ---- AsksForPlay whose image isn't written
 
 abbrev play_end : Place → Text → Walk
 play_end Nowhere file = after_file file start
@@ -115,19 +115,19 @@ played_capture AtEnd file = refl
 -- The job of the command `play` with these matches.
 pub play_of_rows : (rows : List Row) (file out : Option Text) (version : Option Version) (capture : Option Text) (job : Job)
     → first_of (codes "FILE") rows ≡ file → first_of (codes "OUT") rows ≡ out → version_by (first_of (codes "V2") rows) ≡ version
-    → first_of (codes "CAPTURE") rows ≡ capture → IsMeant (Some (codes "play", rows)) job → Plays file out version capture job
+    → first_of (codes "CAPTURE") rows ≡ capture → IsMeant (Some (codes "play", rows)) job → AsksForPlay file out version capture job
 play_of_rows rows file out version capture job is_file is_out is_version is_capture meant =
     let asked = version_by (first_of (codes "V2") rows) in
     let captured = first_of (codes "CAPTURE") rows in
-    subst (λ (text : Option Text). Plays file out version text job) is_capture
-    (subst (λ (v : Option Version). Plays file out v captured job) is_version
-    (subst (λ (text : Option Text). Plays file text asked captured job) is_out
-    (subst (λ (text : Option Text). Plays text (first_of (codes "OUT") rows) asked captured job) is_file meant)))
+    subst (λ (text : Option Text). AsksForPlay file out version text job) is_capture
+    (subst (λ (v : Option Version). AsksForPlay file out v captured job) is_version
+    (subst (λ (text : Option Text). AsksForPlay file text asked captured job) is_out
+    (subst (λ (text : Option Text). AsksForPlay text (first_of (codes "OUT") rows) asked captured job) is_file meant)))
 
 -- `play FILE` is a play of FILE whose image isn't written.
 pub play_meant : (place : Place) (name file : Text) (job : Job) → is_operand file ≡ true
     → IsMeant (subcommand_of atalk_app (name ∷ codes "play" ∷ play_words place file)) job
-    → Plays (Some file) None (version_at place) None job
+    → AsksForPlay (Some file) None (version_at place) None job
 play_meant place name file job operand meant =
     let line = whole_line play_shape (play_words place file) (play_end place file) (play_leads place file operand) (play_ends_well place file) in
     let rows = play_entered place name file ∙ ap (λ (rows : List Row). Some (codes "play", rows)) line.1 in
@@ -142,7 +142,7 @@ play_taken place name file operand =
     let line = whole_line play_shape (play_words place file) (play_end place file) (play_leads place file operand) (play_ends_well place file) in
     play_takes place name file ∙ ap (λ (b : Bool). b && true) line.0
 
--- ---- Plays whose image is written
+-- ---- AsksForPlay whose image is written
 
 abbrev play_to_end : Place → Text → Text → Walk
 play_to_end Nowhere file out = after_out out (after_image (after_file file start))
@@ -238,7 +238,7 @@ played_to_capture AtEnd file out = refl
 -- `play FILE --image OUT` is a play of FILE whose image is written to OUT.
 pub play_to_meant : (place : Place) (name file out : Text) (job : Job) → is_operand file ≡ true → is_operand out ≡ true
     → IsMeant (subcommand_of atalk_app (name ∷ codes "play" ∷ play_to_words place file out)) job
-    → Plays (Some file) (Some out) (version_at place) None job
+    → AsksForPlay (Some file) (Some out) (version_at place) None job
 play_to_meant place name file out job first second meant =
     let end = play_to_end place file out in
     let line = whole_line play_shape (play_to_words place file out) end (play_to_leads place file out first second)

@@ -145,11 +145,11 @@ version_by value = if is_set value then Some V2 else None
 
 -- The job is a play of the source in the first text, whose image is written to the file in the second text, if there is
 -- one, and has this version, if one is asked for; its capture is written to the file in the third text, if there is one.
-abbrev pub Plays : Option Text → Option Text → Option ImageVersion → Option Text → Job → Type 0
-Plays file out version capture (Play source image asked c) =
+abbrev pub AsksForPlay : Option Text → Option Text → Option ImageVersion → Option Text → Job → Type 0
+AsksForPlay file out version capture (Play source image asked c) =
     Names file source × (option_map (λ path. path.now) image ≡ out) × (asked ≡ version)
     × (option_map (λ path. path.now) c ≡ capture)
-Plays file out version capture _ = ⊥
+AsksForPlay file out version capture _ = ⊥
 
 -- The job is to make an image of the source in the first text, which is written to the file in the second text, if there
 -- is one.
@@ -189,7 +189,7 @@ IsMeantBy ToAudit rows job = Audits (first_of (codes "FILE") rows) job
 IsMeantBy ToTrace rows job =
     Traces (first_of (codes "IMAGE") rows) (first_of (codes "SCRIPT") rows) (first_of (codes "CAPTURE") rows) job
 IsMeantBy ToPlay rows job =
-    Plays (first_of (codes "FILE") rows) (first_of (codes "OUT") rows) (version_by (first_of (codes "V2") rows))
+    AsksForPlay (first_of (codes "FILE") rows) (first_of (codes "OUT") rows) (version_by (first_of (codes "V2") rows))
     (first_of (codes "CAPTURE") rows) job
 IsMeantBy ToMake rows job = Makes (first_of (codes "FILE") rows) (first_of (codes "OUT") rows) job
 IsMeantBy ToShow rows job = Shows (first_of (codes "IMAGE") rows) job
@@ -341,10 +341,10 @@ abbrev pub Asks : Form → Job → Type 0
 Asks (AuditForm file) job = Audits (Some file) job
 Asks (TraceForm image script) job = Traces (Some image) (Some script) None job
 Asks (TraceTo image script out) job = Traces (Some image) (Some script) (Some out) job
-Asks (PlayForm place file) job = Plays (Some file) None (version_at place) None job
-Asks (PlayTo place file out) job = Plays (Some file) (Some out) (version_at place) None job
-Asks (CaptureForm file capture) job = Plays (Some file) None None (Some capture) job
-Asks (CaptureTo file out capture) job = Plays (Some file) (Some out) None (Some capture) job
+Asks (PlayForm place file) job = AsksForPlay (Some file) None (version_at place) None job
+Asks (PlayTo place file out) job = AsksForPlay (Some file) (Some out) (version_at place) None job
+Asks (CaptureForm file capture) job = AsksForPlay (Some file) None None (Some capture) job
+Asks (CaptureTo file out capture) job = AsksForPlay (Some file) (Some out) None (Some capture) job
 Asks (MakeForm file) job = Makes (Some file) None job
 Asks (MakeTo file out) job = Makes (Some file) (Some out) job
 Asks (ShowForm image) job = Shows (Some image) job

@@ -31,7 +31,7 @@ use Rattle.legal_cables.proofs.Beginning.{begins}
 use Rattle.legal_cables.proofs.Members.{legal_then, station_takes}
 use Rattle.legal_cables.proofs.Stations.{node_sends}
 use Rattle.legal_runs.specs.Answers.{IsMade, IsOwn}
-use Rattle.legal_runs.specs.Legal.{Begins, Block, Goes, IsLegal}
+use Rattle.legal_runs.specs.Legal.{Begins, Block, Continues, IsLegal}
 use Rattle.legal_runs.specs.Legs.{Leg, places_of}
 use Rattle.legal_runs.specs.Stations.{cable_seats}
 use Rattle.legal_runs.specs.Lookups.{is_unasked}
@@ -173,7 +173,7 @@ took_on i ok bounded st others (Known a) (Known b) stamp s all seats legal w =
           subst (HoldStations i) (sym w.changed)
           (hold_with i st s w.after all (subst (λ n. HoldsStation i n w.after) x.of_station m.1));
       seats = x.entries.seats ∙ seats;
-      legal = (legal.0, subst (IsLegal i) (sym added) (Goes t (Took stamp s ∷ others_of) legal.1 block));
+      legal = (legal.0, subst (IsLegal i) (sym added) (Continues t (Took stamp s ∷ others_of) legal.1 block));
       block = Took stamp s ∷ others_of;
       lawful = block;
       added = added;
@@ -255,7 +255,7 @@ sent_on i ok l made own (Known a) (Known b) seats legal adds =
     subst (λ b. Block i t (Sent l.station b ∷ out)) (sym is) with_stamp in
     record {
       seats = adds.seats ∙ seats;
-      legal = (legal.0, subst (IsLegal i) (sym adds.added) (Goes t _ legal.1 block));
+      legal = (legal.0, subst (IsLegal i) (sym adds.added) (Continues t _ legal.1 block));
       rest = out;
       lawful = block;
       added = adds.added;

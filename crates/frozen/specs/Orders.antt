@@ -16,7 +16,7 @@ use Rattle.end_node.specs.Asking.{asked_by, request_bytes}
 use Rattle.end_node.specs.Lookups.{is_any}
 use Rattle.frozen.specs.declared.order.Order.{Order}
 use Rattle.ddp.specs.Bodies.{target}
-use Rattle.legal_runs.specs.Answers.{Goes}
+use Rattle.legal_runs.specs.Answers.{MayLeave}
 use Rattle.legal_runs.specs.Legs.{Leg}
 use Rattle.legal_runs.specs.Stations.{is_on, is_router}
 use Rattle.nbp.specs.declared.tuple.Tuple.{Tuple}
@@ -131,6 +131,6 @@ bytes_for o payload = bytes_of datagram (datagram_of o.header payload)
 pub record IsFair (i : Internet) (o : Order) : Type 0 where
   pub by_node : is_router i o.station ≡ false
   pub seated : is_on i o.station o.cable ≡ true
-  pub goes : (l : Leg) → l.cable ≡ o.cable → l.next ≡ o.next → target l.body ≡ o.header.target → Goes i l
+  pub goes : (l : Leg) → l.cable ≡ o.cable → l.next ≡ o.next → target l.body ≡ o.header.target → MayLeave i l
   pub handed :
       (o.header.target.net ≡ 0) ⊎ ((a : Addr) × (r : ℕ) × (o.next ≡ next.Station a) × (owner i o.cable a ≡ Some r))

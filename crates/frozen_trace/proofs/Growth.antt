@@ -19,7 +19,7 @@ use Rattle.image_stations.specs.Finding.{station_at}
 use Rattle.frozen.proofs.Grown.{sent_grown, taken_grown}
 use Rattle.legal_runs.specs.Legs.{places_of}
 use Rattle.frozen_trace.proofs.EntryLines.{cables_append, lines_append, printed}
-use Rattle.frozen_trace.specs.Traces.{Plays, Played, PlaysAll, Refusing, added, all_printed, cables_of, refused_line, told}
+use Rattle.frozen_trace.specs.Traces.{StepPrints, Played, StepsPrint, Refusing, added, all_printed, cables_of, refused_line, told}
 use Rattle.script.specs.declared.step.Step.{Step}
 use Rattle.script.specs.declared.step.Step.TheVariants as step
 use Rattle.trace_lines.specs.Lines.{Printed, lines, with_cables}
@@ -155,17 +155,17 @@ prints a b m known before x k l = record {
 
 -- An event with an error other than Memory.
 pub refusing : (old new : Running) (e : Event) (error : Error) → new ≡ old → IsRefused (refusal old e) error → error ≢ Memory
-    → Plays old (step.Event e) (refused_line error) new
+    → StepPrints old (step.Event e) (refused_line error) new
 refusing old new e error kept (inl own) other =
-    subst (λ (r : Running). Plays old (step.Event e) (refused_line error) r) (sym kept) (Refusing old e error own)
+    subst (λ (r : Running). StepPrints old (step.Event e) (refused_line error) r) (sym kept) (Refusing old e error own)
 refusing old new e error kept (inr memory) other = absurd (other memory.0)
 
 -- The steps up to one, followed by that one.
 pub play_one : (old between new : Running) (steps : List Step) (k : ℕ) (s : Step) (text more : List ℕ)
-    → slice_get steps k ≡ Some s → PlaysAll old (take k steps) text between → Plays between s more new
-    → PlaysAll old (take (k + 1) steps) (text ++ more) new
+    → slice_get steps k ≡ Some s → StepsPrint old (take k steps) text between → StepPrints between s more new
+    → StepsPrint old (take (k + 1) steps) (text ++ more) new
 play_one old between new steps k s text more at before one =
-    subst (λ (l : List Step). PlaysAll old l (text ++ more) new) (sym (take_one steps k s at))
+    subst (λ (l : List Step). StepsPrint old l (text ++ more) new) (sym (take_one steps k s at))
     (Played old between new (take k steps) s text more before one)
 
 -- Takes up to one after which something is pending.

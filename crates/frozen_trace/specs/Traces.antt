@@ -43,21 +43,21 @@ pending_line r = codes "pending " ++ decimal (length (pending_in r)) ++ 10 ∷ [
 -- The effect of a step on a run, and the text that is printed: an event is carried out, or has an error other than
 -- Memory and changes nothing; or frames are taken, as many as the step says unless nothing is pending any more, or up
 -- to the first take that has an error other than Memory.
-pub data Plays : Running → Step → List ℕ → Running → Type 0 where
+pub data StepPrints : Running → Step → List ℕ → Running → Type 0 where
   Happening : (old new : Running) (e : Event) → refusal old e ≡ None → Happens old e new
-      → Plays old (step.Event e) (told old new) new
+      → StepPrints old (step.Event e) (told old new) new
   Refusing : (r : Running) (e : Event) (error : Error) → refusal r e ≡ Some error
-      → Plays r (step.Event e) (refused_line error) r
+      → StepPrints r (step.Event e) (refused_line error) r
   Draining : (old new : Running) (most : ℕ) (none_left : Bool) → DrainsTo old most none_left new
-      → Plays old (step.Drain most) (told old new) new
+      → StepPrints old (step.Drain most) (told old new) new
   Stopping : (old new : Running) (most : ℕ) (error : Error) → error ≢ Memory → DrainStops old most error new
-      → Plays old (step.Drain most) (told old new ++ refused_line error) new
+      → StepPrints old (step.Drain most) (told old new ++ refused_line error) new
 
 -- The effect of steps, one after the other, and the text that is printed.
-pub data PlaysAll : Running → List Step → List ℕ → Running → Type 0 where
-  Unplayed : (r : Running) → PlaysAll r [] [] r
-  Played : (old between new : Running) (steps : List Step) (s : Step) (text more : List ℕ) → PlaysAll old steps text between
-      → Plays between s more new → PlaysAll old (steps ++ s ∷ []) (text ++ more) new
+pub data StepsPrint : Running → List Step → List ℕ → Running → Type 0 where
+  Unplayed : (r : Running) → StepsPrint r [] [] r
+  Played : (old between new : Running) (steps : List Step) (s : Step) (text more : List ℕ) → StepsPrint old steps text between
+      → StepPrints between s more new → StepsPrint old (steps ++ s ∷ []) (text ++ more) new
 
 -- the most entries of a trace's transcript
 abbrev pub max_traced : ℕ
@@ -74,5 +74,5 @@ pub record IsTrace (i : Internet) (steps : List Step) (text : List ℕ) : Type 0
   pub begun_frozen : IsFrozen begun
   pub ended_frozen : IsFrozen ended
   pub played : List ℕ
-  pub plays : PlaysAll begun steps played ended
+  pub plays : StepsPrint begun steps played ended
   pub whole : text ≡ played ++ pending_line ended

@@ -2,7 +2,7 @@
 
 ghost use Rattle.std.specs.Prelude.{◌≡◌, List, ℕ, OnOk};
 ghost use Rattle.text.specs.Going.{Goes};
-ghost use Rattle.frozen_trace.specs.Traces.{Plays, PlaysAll, all_printed};
+ghost use Rattle.frozen_trace.specs.Traces.{StepPrints, StepsPrint, all_printed};
 ghost use Rattle.script.specs.declared.step.Step.TheVariants as step;
 ghost use Rattle.text.specs.Writing.{Prints};
 
@@ -29,7 +29,7 @@ fn play_event<T: RouteTable, W: Write>(
 ) -> Result<(), Error>
     requires known { lines.old ≡ all_printed run.old }
     ensures played { OnOk result ((more : List ℕ)
-        × Plays run.old (step.Event event.now) more run.new
+        × StepPrints run.old (step.Event event.now) more run.new
         × Goes (W.contents output.old.writer) output.old.text.items more
         (W.contents output.new.writer) output.new.text.items) }
     ensures known { OnOk result (lines.new ≡ all_printed run.new) }
@@ -57,7 +57,7 @@ fn play_drain<T: RouteTable, W: Write>(
 ) -> Result<(), Error>
     requires known { lines.old ≡ all_printed run.old }
     ensures played { OnOk result ((more : List ℕ)
-        × Plays run.old (step.Drain most) more run.new
+        × StepPrints run.old (step.Drain most) more run.new
         × Goes (W.contents output.old.writer) output.old.text.items more
         (W.contents output.new.writer) output.new.text.items) }
     ensures known { OnOk result (lines.new ≡ all_printed run.new) }
@@ -92,7 +92,7 @@ fn play_step<T: RouteTable, W: Write>(
 ) -> Result<(), Error>
     requires known { lines.old ≡ all_printed run.old }
     ensures played { OnOk result ((more : List ℕ)
-        × Plays run.old step.now more run.new
+        × StepPrints run.old step.now more run.new
         × Goes (W.contents output.old.writer) output.old.text.items more
         (W.contents output.new.writer) output.new.text.items) }
     ensures known { OnOk result (lines.new ≡ all_printed run.new) }
@@ -115,7 +115,7 @@ pub fn play<T: RouteTable, W: Write>(
 ) -> Result<(), Error>
     requires known { lines.old ≡ all_printed run.old }
     ensures played { OnOk result ((more : List ℕ)
-        × PlaysAll run.old steps.now more run.new
+        × StepsPrint run.old steps.now more run.new
         × Goes (W.contents output.old.writer) output.old.text.items more
         (W.contents output.new.writer) output.new.text.items) }
     ensures prints { Prints output.old.faults output.new.faults result }

@@ -6,7 +6,7 @@ ghost use Rattle.audit.specs.Rules.{Passes};
 ghost use Rattle.audit.specs.Verdicts.{verdict_line};
 ghost use Rattle.audit.specs.declared.verdict.Verdict.TheVariants as VerdictValue;
 ghost use Rattle.frozen_trace.specs.Captured.{HasTraced, is_ran};
-ghost use Rattle.frozen_trace.specs.Traces.{PlaysAll, all_printed, pending_line};
+ghost use Rattle.frozen_trace.specs.Traces.{StepsPrint, all_printed, pending_line};
 ghost use Rattle.frozen.specs.Runs.{IsFrozen};
 ghost use Rattle.text.specs.Writing.{Prints};
 
@@ -125,7 +125,7 @@ fn trace_run<T: RouteTable, W: Write>(
     refusals: &mut Refusals,
 ) -> Result<(), Error>
     requires known { lines.old ≡ all_printed run.old }
-    ensures printed { OnOk result ((played : List ℕ) × PlaysAll run.old steps.now played run.new
+    ensures printed { OnOk result ((played : List ℕ) × StepsPrint run.old steps.now played run.new
         × Appends (W.contents output.old.writer) (W.contents output.new.writer)
         (output.old.text.items ++ played ++ pending_line run.new)) }
     ensures frozen { OnOk result (IsFrozen run.old × IsFrozen run.new) }

@@ -13,7 +13,7 @@ use Rattle.legal_stations.proofs.NodeSeats.{station_within}
 use Rattle.legal_stations.proofs.Responding.{taken_at}
 use Rattle.live_cables.specs.Living.{TakesStill, Wires, happened}
 use Rattle.resolved_runs.specs.Fitting.{SeatsFit}
-use Rattle.resolved_runs.specs.ResolvedRuns.{Goes, IsLegalResolved}
+use Rattle.resolved_runs.specs.ResolvedRuns.{Continues, IsLegalResolved}
 use Rattle.router.specs.Answers.{Hears as RouterHears}
 use Rattle.router.specs.Holding.{Holding}
 use Rattle.station.specs.Members.{EitherHears}
@@ -37,7 +37,7 @@ station_takes i ok bounded fit old new stamp station ports legal kept (member.No
 
 -- The transcript is legal with resolution then.
 pub legal_then : (i : Internet) (old new : Wires) → IsLegalResolved i (happened old) → Resolves i old new → IsLegalResolved i (happened new)
-legal_then i old new legal r = subst (IsLegalResolved i) (sym r.adds.added) (Goes (happened old) r.block legal r.legal)
+legal_then i old new legal r = subst (IsLegalResolved i) (sym r.adds.added) (Continues (happened old) r.block legal r.legal)
 
 -- A station for which a frame is pending is one of the internet's routers and nodes.
 pub taker_within : (i : Internet) (t : List Entry) (p : Pair) → Contains (pending (cable_seats i) t) p

@@ -10,7 +10,7 @@ use Rattle.audit.specs.Example.{addr, hardware, three_cables}
 use Rattle.cable_model.specs.Transcript.{Took}
 use Rattle.legal_runs.proofs.ByHand.{fitting, frame, is_body, not_zero, pair}
 use Rattle.legal_runs.specs.Answers.{ByRouter, Expanded, IsBody, IsMade, LookedUp, Others, ToThese}
-use Rattle.legal_runs.specs.Legal.{IsLegal, Begins, Goes, Sends, Takes}
+use Rattle.legal_runs.specs.Legal.{IsLegal, Begins, Continues, Sends, Takes}
 use Rattle.legal_runs.specs.Legs.{Leg}
 use Rattle.at_base.specs.Multicast.{group_hw, group_of}
 use Rattle.legal_runs.specs.LookupExample.{blue, blue_forward, blue_lookup, blue_names, blue_request, lab_reply}
@@ -101,7 +101,7 @@ reply_is_made =
 asked : IsLegal three_cables (take 3 blue_names)
 unfolding request datagram packet tuple address text
 asked =
-    Goes [] (take 3 blue_names) Begins
+    Continues [] (take 3 blue_names) Begins
     (Sends request_leg request_is_made (record {
       by_node = refl;
       handed = inr (addr 10 1, 0, refl, refl);
@@ -110,7 +110,7 @@ asked =
 pub expanded : IsLegal three_cables (take 8 blue_names)
 unfolding request zone_of datagram packet tuple address text
 expanded =
-    Goes (take 3 blue_names) (take 5 (drop 3 blue_names)) asked
+    Continues (take 3 blue_names) (take 5 (drop 3 blue_names)) asked
     (Takes (pair (frame 0 0 2 (hardware 1) blue_request) 0 0 1 None) (second_leg ∷ forward_leg ∷ []) (0, omega arith, refl)
     (second_is_made, (forward_is_made, tt)) (refl, (refl, tt))
     (Expanded refl (
@@ -133,7 +133,7 @@ expanded =
 looked : IsLegal three_cables (take 12 blue_names)
 unfolding request zone_of datagram packet tuple address text
 looked =
-    Goes (take 8 blue_names) (take 4 (drop 8 blue_names)) expanded
+    Continues (take 8 blue_names) (take 4 (drop 8 blue_names)) expanded
     (Takes (pair (frame 2 1 0 (hardware 3) blue_forward) 1 0 3 None) (third_leg ∷ []) (0, omega arith, refl) (third_is_made, tt)
     (refl, tt)
     (LookedUp 2 third_leg refl refl refl (record { here = refl; by = refl; kind = refl; key = refl; next = refl })))
@@ -141,25 +141,25 @@ looked =
 answered : IsLegal three_cables (take 15 blue_names)
 unfolding request zone_of datagram packet tuple address text
 answered =
-    Goes (take 12 blue_names) (take 3 (drop 12 blue_names)) looked
+    Continues (take 12 blue_names) (take 3 (drop 12 blue_names)) looked
     (Takes (pair (frame 3 2 1 (group_hw 118) (blue_lookup 30)) 3 0 6 (Some 118)) (reply_leg ∷ []) (0, omega arith, refl)
     (reply_is_made, tt) (refl, tt) (Others refl refl (refl, tt)))
 
 passed_back : IsLegal three_cables (take 17 blue_names)
 unfolding request zone_of datagram packet tuple address text
 passed_back =
-    Goes (take 15 blue_names) (take 2 (drop 15 blue_names)) answered
+    Continues (take 15 blue_names) (take 2 (drop 15 blue_names)) answered
     (Takes (pair (frame 4 2 3 (hardware 4) (lab_reply 0)) 1 1 4 None) [] (0, omega arith, refl) tt tt (Others refl refl tt))
 
 come_back : IsLegal three_cables (take 20 blue_names)
 unfolding request zone_of datagram packet tuple address text
 come_back =
-    Goes (take 17 blue_names) (take 3 (drop 17 blue_names)) passed_back
+    Continues (take 17 blue_names) (take 3 (drop 17 blue_names)) passed_back
     (Takes (pair (frame 5 1 1 (hardware 2) (lab_reply 4)) 0 1 2 None) [] (0, omega arith, refl) tt tt (Others refl refl tt))
 
 pub names_are_legal : IsLegal three_cables blue_names
 unfolding request zone_of datagram packet tuple address text
 names_are_legal =
-    Goes (take 20 blue_names) (Took 6 2 ∷ []) come_back
+    Continues (take 20 blue_names) (Took 6 2 ∷ []) come_back
     (Takes (pair (frame 6 0 0 (hardware 5) (lab_reply 8)) 2 0 5 (Some (group_of (codes "Red")))) [] (0, omega arith, refl) tt tt
     (Others refl refl tt))

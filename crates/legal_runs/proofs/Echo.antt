@@ -9,7 +9,7 @@ use Rattle.cable_model.specs.Transcript.{Took}
 use Rattle.legal_runs.proofs.ByHand.{fitting, frame, is_body, not_zero, pair}
 use Rattle.legal_runs.specs.Answers.{Others, IsBody, IsMade, ByRouter}
 use Rattle.legal_runs.specs.Example.{echo, ping, echo_reply, echo_request}
-use Rattle.legal_runs.specs.Legal.{IsLegal, Begins, Goes, Sends, Takes}
+use Rattle.legal_runs.specs.Legal.{IsLegal, Begins, Continues, Sends, Takes}
 use Rattle.legal_runs.specs.Legs.{Leg}
 use Rattle.legal_runs.specs.Requests.{request}
 use Rattle.at_base.specs.Multicast.{group_of}
@@ -56,7 +56,7 @@ reply_is_made =
 pub asked : IsLegal three_cables (take 2 echo)
 unfolding request datagram
 asked =
-    Goes [] (take 2 echo) Begins
+    Continues [] (take 2 echo) Begins
     (Sends request_leg request_is_made (record {
       by_node = refl;
       handed = inr (addr 10 1, 0, refl, refl);
@@ -65,19 +65,19 @@ asked =
 pub passed_on : IsLegal three_cables (take 4 echo)
 unfolding request datagram
 passed_on =
-    Goes (take 2 echo) (take 2 (drop 2 echo)) asked
+    Continues (take 2 echo) (take 2 (drop 2 echo)) asked
     (Takes (pair (frame 0 0 2 (hardware 1) (echo_request 0)) 0 0 1 None) [] (0, omega arith, refl) tt tt (Others refl refl tt))
 
 arrived : IsLegal three_cables (take 7 echo)
 unfolding request datagram
 arrived =
-    Goes (take 4 echo) (take 3 (drop 4 echo)) passed_on
+    Continues (take 4 echo) (take 3 (drop 4 echo)) passed_on
     (Takes (pair (frame 1 1 0 (hardware 3) (echo_request 4)) 1 0 3 None) [] (0, omega arith, refl) tt tt (Others refl refl tt))
 
 replied : IsLegal three_cables (take 10 echo)
 unfolding request datagram
 replied =
-    Goes (take 7 echo) (take 3 (drop 7 echo)) arrived
+    Continues (take 7 echo) (take 3 (drop 7 echo)) arrived
     (Takes (pair (frame 2 2 1 (hardware 6) (echo_request 8)) 3 0 6 (Some (group_of (codes "Blue")))) (reply_leg ∷ [])
     (0, omega arith, refl)
     (reply_is_made, tt) (refl, tt) (Others refl refl (refl, tt)))
@@ -85,18 +85,18 @@ replied =
 passed_back : IsLegal three_cables (take 12 echo)
 unfolding request datagram
 passed_back =
-    Goes (take 10 echo) (take 2 (drop 10 echo)) replied
+    Continues (take 10 echo) (take 2 (drop 10 echo)) replied
     (Takes (pair (frame 3 2 3 (hardware 4) (echo_reply 0)) 1 1 4 None) [] (0, omega arith, refl) tt tt (Others refl refl tt))
 
 come_back : IsLegal three_cables (take 15 echo)
 unfolding request datagram
 come_back =
-    Goes (take 12 echo) (take 3 (drop 12 echo)) passed_back
+    Continues (take 12 echo) (take 3 (drop 12 echo)) passed_back
     (Takes (pair (frame 4 1 1 (hardware 2) (echo_reply 4)) 0 1 2 None) [] (0, omega arith, refl) tt tt (Others refl refl tt))
 
 pub echo_is_legal : IsLegal three_cables echo
 unfolding request datagram
 echo_is_legal =
-    Goes (take 15 echo) (Took 5 2 ∷ []) come_back
+    Continues (take 15 echo) (Took 5 2 ∷ []) come_back
     (Takes (pair (frame 5 0 0 (hardware 5) (echo_reply 8)) 2 0 5 (Some (group_of (codes "Red")))) [] (0, omega arith, refl) tt tt
     (Others refl refl tt))

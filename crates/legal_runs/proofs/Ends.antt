@@ -7,7 +7,7 @@ use Rattle.audit.specs.Example.{addr, hardware, three_cables}
 use Rattle.cable_model.specs.Transcript.{Took}
 use Rattle.legal_runs.specs.Answers.{Others, IsBody, IsMade, ByRouter}
 use Rattle.legal_runs.specs.Example.{plain, to_everybody, to_nobody, to_nowhere}
-use Rattle.legal_runs.specs.Legal.{IsLegal, Begins, Goes, Sends, Takes}
+use Rattle.legal_runs.specs.Legal.{IsLegal, Begins, Continues, Sends, Takes}
 use Rattle.legal_runs.specs.Legs.{Leg}
 use Rattle.at_base.specs.Multicast.{all_hw, group_of}
 use Rattle.legal_runs.specs.Requests.{request}
@@ -61,46 +61,46 @@ nowhere_is_made =
 
 nobody_sent : IsLegal three_cables (take 2 to_nobody)
 nobody_sent =
-    Goes [] (take 2 to_nobody) Begins
+    Continues [] (take 2 to_nobody) Begins
     (Sends (leg_to_router 10 9) nobody_is_made (record { by_node = refl; handed = inr (addr 10 1, 0, refl, refl) }))
 
 pub nobody_is_legal : IsLegal three_cables to_nobody
 unfolding request datagram
 nobody_is_legal =
-    Goes (take 2 to_nobody) (drop 2 to_nobody) nobody_sent
+    Continues (take 2 to_nobody) (drop 2 to_nobody) nobody_sent
     (Takes (pair (frame 0 0 2 (hardware 1) (plain 0 10 9)) 0 0 1 None) [] (0, omega arith, refl) tt tt (Others refl refl tt))
 
 everybody_sent : IsLegal three_cables (take 2 to_everybody)
 everybody_sent =
-    Goes [] (take 2 to_everybody) Begins
+    Continues [] (take 2 to_everybody) Begins
     (Sends (leg_to_router 30 255) everybody_is_made (record { by_node = refl; handed = inr (addr 10 1, 0, refl, refl) }))
 
 everybody_passed : IsLegal three_cables (take 4 to_everybody)
 unfolding request datagram
 everybody_passed =
-    Goes (take 2 to_everybody) (take 2 (drop 2 to_everybody)) everybody_sent
+    Continues (take 2 to_everybody) (take 2 (drop 2 to_everybody)) everybody_sent
     (Takes (pair (frame 0 0 2 (hardware 1) (plain 0 30 255)) 0 0 1 None) [] (0, omega arith, refl) tt tt (Others refl refl tt))
 
 everybody_reached : IsLegal three_cables (take 7 to_everybody)
 unfolding request datagram
 everybody_reached =
-    Goes (take 4 to_everybody) (take 3 (drop 4 to_everybody)) everybody_passed
+    Continues (take 4 to_everybody) (take 3 (drop 4 to_everybody)) everybody_passed
     (Takes (pair (frame 1 1 0 (hardware 3) (plain 4 30 255)) 1 0 3 None) [] (0, omega arith, refl) tt tt (Others refl refl tt))
 
 pub everybody_is_legal : IsLegal three_cables to_everybody
 unfolding request datagram
 everybody_is_legal =
-    Goes (take 7 to_everybody) (Took 2 3 ∷ []) everybody_reached
+    Continues (take 7 to_everybody) (Took 2 3 ∷ []) everybody_reached
     (Takes (pair (frame 2 2 1 all_hw (plain 8 30 255)) 3 0 6 (Some (group_of (codes "Blue")))) [] (0, omega arith, refl) tt tt
     (Others refl refl tt))
 
 nowhere_sent : IsLegal three_cables (take 2 to_nowhere)
 nowhere_sent =
-    Goes [] (take 2 to_nowhere) Begins
+    Continues [] (take 2 to_nowhere) Begins
     (Sends (leg_to_router 50 9) nowhere_is_made (record { by_node = refl; handed = inr (addr 10 1, 0, refl, refl) }))
 
 pub nowhere_is_legal : IsLegal three_cables to_nowhere
 unfolding request datagram
 nowhere_is_legal =
-    Goes (take 2 to_nowhere) (drop 2 to_nowhere) nowhere_sent
+    Continues (take 2 to_nowhere) (drop 2 to_nowhere) nowhere_sent
     (Takes (pair (frame 0 0 2 (hardware 1) (plain 0 50 9)) 0 0 1 None) [] (0, omega arith, refl) tt tt (Others refl refl tt))

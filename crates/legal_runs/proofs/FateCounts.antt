@@ -9,7 +9,7 @@ use Rattle.ddp.specs.Bodies.{body, hops, target}
 use Rattle.table_image.specs.Internet.{Internet}
 use Rattle.audit.specs.Routing.{hand, home}
 use Rattle.audit.specs.Rules.{Passes}
-use Rattle.audit.specs.Walks.{Stops, Goes as GoesBy}
+use Rattle.audit.specs.Walks.{Stops, StepsTo as GoesBy}
 use Rattle.audit.proofs.WalkSteps.{nowhere, steps}
 use Rattle.station.specs.declared.output.DropCause.TheVariants.{HopLimit}
 use Rattle.station.specs.declared.heard.Kind.{Kind}

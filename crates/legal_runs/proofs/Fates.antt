@@ -8,13 +8,13 @@ use Rattle.ddp.specs.Bodies.{body, hops, target}
 use Rattle.table_image.specs.Internet.{Internet}
 use Rattle.audit.specs.Routing.{Here, On, distance, hand, home, owner}
 use Rattle.audit.specs.Rules.{Passes}
-use Rattle.audit.specs.Walks.{Stops, Goes as GoesBy}
+use Rattle.audit.specs.Walks.{Stops, StepsTo as GoesBy}
 use Rattle.audit.proofs.WalkSteps.{nowhere, steps}
 use Rattle.station.specs.declared.output.DropCause.TheVariants.{HopLimit}
 use Rattle.cable_model.specs.declared.entry.How.TheVariants as how
 use Rattle.cable_model.specs.Pending.{Pair}
 use Rattle.cable_model.specs.Transcript.{Reached, Dropped}
-use Rattle.legal_runs.specs.Answers.{Goes, Straight, ByRouter, ToThem}
+use Rattle.legal_runs.specs.Answers.{MayLeave, Straight, ByRouter, ToThem}
 use Rattle.legal_runs.specs.Legs.{fate, fate_by, final, is_copy, is_datagram, is_unicast, leg, passed}
 use Rattle.legal_runs.specs.Stations.{cable_holds, has_address, is_on, is_router}
 use Rattle.legal_runs.proofs.Does.{Does, HopsFine, does_drop, does_reach}
@@ -49,7 +49,7 @@ module _ (i : Internet) (ok : Passes i) (N A : ℕ → Type 0) (stamp : ℕ) (p 
   home_same o e = ap (λ (a : Addr). home i a.net) same ∙ e
 
   -- A copy with hops left is put on its cable or handed to the next router.
-  passed_on : (r c : ℕ) (whom : Next) → hops p.frame.bytes ≤ 14 → is_on i r c ≡ true → Goes i (passed r p c whom)
+  passed_on : (r c : ℕ) (whom : Next) → hops p.frame.bytes ≤ 14 → is_on i r c ≡ true → MayLeave i (passed r p c whom)
       → ((a : Addr) (s d : ℕ) → whom ≡ next.Station a → owner i c a ≡ Some s → same_address (target (body p.frame.bytes)) a ≡ false
       → home i (target (body p.frame.bytes)).net ≡ Some d → (hops p.frame.bytes + 1) + distance i s (target (body p.frame.bytes)).net ≤ 14)
       → (home i (target (body p.frame.bytes)).net ≡ Some c → A c)

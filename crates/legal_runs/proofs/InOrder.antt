@@ -10,7 +10,7 @@ use Rattle.cable_model.proofs.Counting.{At, contained_at, each-append, each_at, 
 use Rattle.cable_model.proofs.Pairs.{EndsBelow, EndsNone, below_more}
 use Rattle.cable_model.proofs.Stamps.{next_after, stamp_from_more}
 use Rattle.legal_runs.specs.Losses.{Ends, Keeps, Loses, WithLosses}
-use Rattle.legal_runs.specs.LossyRuns.{Begins, Goes, IsLegalWithLosses, LossyBlock, Loses as LosesOne, Sends, Takes}
+use Rattle.legal_runs.specs.LossyRuns.{Begins, Continues, IsLegalWithLosses, LossyBlock, Loses as LosesOne, Sends, Takes}
 use Rattle.legal_runs.specs.Stations.{cable_seats}
 use Rattle.legal_runs.proofs.Lossy.{rising_with_losses}
 use Rattle.legal_runs.proofs.Rises.{IsFrom, Rises, pairs_below, rises_once}
@@ -78,7 +78,7 @@ module _ (i : Internet) where
 
   pub are_in_order : (t : List Entry) → IsLegalWithLosses i t → AreInOrder i [] t
   are_in_order t Begins = tt
-  are_in_order t (Goes front block legal b) = in_order-append [] front block (are_in_order front legal) (block_in_order front block b)
+  are_in_order t (Continues front block legal b) = in_order-append [] front block (are_in_order front legal) (block_in_order front block b)
 
   -- ---- What ends pairs is below the next stamp
 

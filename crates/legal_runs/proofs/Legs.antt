@@ -21,7 +21,7 @@ use Rattle.cable_model.specs.declared.entry.How.TheVariants as how
 use Rattle.station.specs.declared.heard.Kind.TheVariants.{Ddp}
 use Rattle.at_base.specs.Multicast.{all_hw, group_hw, is_all, is_group}
 use Rattle.cable_model.proofs.Counting.{At}
-use Rattle.legal_runs.specs.Answers.{Goes, Straight, ByRouter, ToThem, OnCable, ToThese}
+use Rattle.legal_runs.specs.Answers.{MayLeave, Straight, ByRouter, ToThem, OnCable, ToThese}
 use Rattle.legal_runs.specs.Legs.{Leg, found_at, is_datagram, leg, leg_bytes, places_of, sender}
 use Rattle.legal_runs.specs.Stations.{cable_holds, cable_seat, has_address, is_on, is_router}
 use Rattle.legal_runs.proofs.Does.{Does, copy_is, does_arrive, does_end, does_go, does_stay, none_alone, none_at_all, frame_to}
@@ -180,7 +180,7 @@ module _ (i : Internet) (ok : Passes i) (N A : ℕ → Type 0) where
       all_true false false true true h ea eg er ez eh = cc
       all_true false false true false true ea eg er ez eh = cc
 
-  pub leg_does : (stamp : ℕ) (l : Leg) → Whole l.body → l.hops ≤ 15 → is_on i l.station l.cable ≡ true → Goes i l
+  pub leg_does : (stamp : ℕ) (l : Leg) → Whole l.body → l.hops ≤ 15 → is_on i l.station l.cable ≡ true → MayLeave i l
       → ((a : Addr) (r c : ℕ) → l.next ≡ next.Station a → owner i l.cable a ≡ Some r → same_address (target l.body) a ≡ false
       → home i (target l.body).net ≡ Some c → l.hops + distance i r (target l.body).net ≤ 14)
       → (home i (target l.body).net ≡ Some l.cable → A l.cable)

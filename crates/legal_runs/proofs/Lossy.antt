@@ -12,7 +12,7 @@ use Rattle.cable_model.specs.Transcript.{stamp_after, stamp_from}
 use Rattle.cable_model.proofs.Counting.{At, contained_at, filter_at}
 use Rattle.legal_runs.specs.Carriage.{AreByHand, AreCarried, AreTakenThere, Chains, Stamped, after}
 use Rattle.legal_runs.specs.Losses.{Ends, Handled, Keeps, Loses, Said, WithLosses}
-use Rattle.legal_runs.specs.LossyRuns.{Begins, Goes, IsLegalWithLosses, LossyBlock, Loses as LosesOne, Sends, Takes}
+use Rattle.legal_runs.specs.LossyRuns.{Begins, Continues, IsLegalWithLosses, LossyBlock, Loses as LosesOne, Sends, Takes}
 use Rattle.legal_runs.specs.Stations.{cable_seats}
 use Rattle.legal_runs.proofs.Rising.{GoesOn, IsRising, RisingBlock, SendsOne, Starts, TakesOne}
 
@@ -170,7 +170,7 @@ module _ (i : Internet) where
   -- Without its losses, a transcript that is legal with losses is legal.
   pub whole_is : (t : List Entry) → IsLegalWithLosses i t → Whole t
   whole_is t Begins = record { entries = []; lossy = Empty; rising = Starts }
-  whole_is t (Goes front block legal b) =
+  whole_is t (Continues front block legal b) =
       let w = whole_is front legal in whole_more front block w.entries w.lossy w.rising b
 
   -- ---- Transcripts without losses are legal with losses
@@ -187,4 +187,4 @@ module _ (i : Internet) where
   pub rising_with_losses : (t : List Entry) → IsRising i t → IsLegalWithLosses i t
   rising_with_losses t Starts = Begins
   rising_with_losses t (GoesOn front block rising b) =
-      Goes front block (rising_with_losses front rising) (rising_block front block b)
+      Continues front block (rising_with_losses front rising) (rising_block front block b)

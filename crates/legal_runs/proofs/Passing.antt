@@ -10,7 +10,7 @@ use Rattle.table_image.specs.Internet.{Internet}
 use Rattle.audit.specs.Routing.{Here, hand, home}
 use Rattle.audit.specs.Rules.{Passes}
 use Rattle.table_image.specs.Seats.{Seat as PlaceOf, seat_at, seats}
-use Rattle.audit.specs.Walks.{Stops, Goes as GoesBy}
+use Rattle.audit.specs.Walks.{Stops, StepsTo as GoesBy}
 use Rattle.audit.proofs.Finding.{any_at, any_from}
 use Rattle.audit.proofs.SeatUnique.{addressed, unique}
 use Rattle.audit.proofs.WalkFacts.{some_of}

@@ -9,7 +9,7 @@ use Rattle.cable_model.proofs.Counting.{each-append}
 use Rattle.cable_model.proofs.Pairs.{EndsNone, numbered-append}
 use Rattle.cable_model.proofs.Stamps.{numbered_stamp}
 use Rattle.legal_runs.specs.Answers.{Answers, IsMade, IsOwn}
-use Rattle.legal_runs.specs.Legal.{Block, Begins, Goes, IsLegal, Sends, Takes, handled, said}
+use Rattle.legal_runs.specs.Legal.{Block, Begins, Continues, IsLegal, Sends, Takes, handled, said}
 use Rattle.legal_runs.specs.Legs.{Leg, fate, leg}
 use Rattle.legal_runs.specs.Losses.{Another, Handled, Nothing, Said}
 use Rattle.legal_runs.specs.Stations.{cable_seats}
@@ -104,7 +104,7 @@ module _ (i : Internet) where
   -- The frames of a legal transcript are numbered, and it holds no datagram.
   pub are_numbered : (t : List Entry) → IsLegal i t → AreNumbered 0 t
   are_numbered t Begins = tt
-  are_numbered t (Goes front block legal b) = numbered-append 0 front block (are_numbered front legal) (block_numbered front block b)
+  are_numbered t (Continues front block legal b) = numbered-append 0 front block (are_numbered front legal) (block_numbered front block b)
 
   said_is : (n : ℕ) (ls : List Leg) → Said i n ls (said i n ls)
   said_is n [] = Nothing n
@@ -131,7 +131,7 @@ module _ (i : Internet) where
   -- The stamps of a legal transcript are consecutive, so they rise.
   pub legal_rises : (t : List Entry) → IsLegal i t → IsRising i t
   legal_rises t Begins = Starts
-  legal_rises t (Goes front block legal b) =
+  legal_rises t (Continues front block legal b) =
       GoesOn front block (legal_rises front legal)
       (block_rises front block (numbered_stamp front (are_numbered front legal)) b)
 

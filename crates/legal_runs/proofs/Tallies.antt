@@ -11,7 +11,7 @@ use Rattle.ddp.specs.Bodies.{body, target}
 use Rattle.table_image.specs.Internet.{Internet}
 use Rattle.audit.specs.Routing.{Here, On, hand, home, owner}
 use Rattle.audit.specs.Rules.{Passes}
-use Rattle.audit.specs.Walks.{Stops, Goes as GoesBy}
+use Rattle.audit.specs.Walks.{Stops, StepsTo as GoesBy}
 use Rattle.audit.proofs.SeatUnique.{addressed}
 use Rattle.audit.proofs.WalkSteps.{steps}
 use Rattle.station.specs.declared.heard.Kind.{Kind}

@@ -27,21 +27,21 @@ pub record IsBody (bytes : List ℕ) : Type 0 where
 -- How a datagram may leave a station: directly to its target node if the network is in the cable's range; to a router
 -- if the network isn't 0; to all stations if the target is all nodes of a network in the cable's range, or of network
 -- 0; to a group if the target is all nodes of network 0.
-pub data Goes (i : Internet) (l : Leg) : Type 0 where
+pub data MayLeave (i : Internet) (l : Leg) : Type 0 where
   Straight : l.next ≡ next.Station (target l.body) → cable_holds i l.cable (target l.body).net ≡ true → (target l.body).node ≢ 0
-      → (target l.body).node ≢ 255 → Goes i l
-  ByRouter : (a : Addr) (r : ℕ) → l.next ≡ next.Station a → owner i l.cable a ≡ Some r → (target l.body).net ≢ 0 → Goes i l
-  ToThem : l.next ≡ next.All → cable_holds i l.cable (target l.body).net ≡ true → (target l.body).node ≡ 255 → Goes i l
-  OnCable : l.next ≡ next.All → (target l.body).net ≡ 0 → (target l.body).node ≡ 255 → Goes i l
-  ToThese : (g : ℕ) → g < 253 → l.next ≡ next.Group g → (target l.body).net ≡ 0 → (target l.body).node ≡ 255 → Goes i l
+      → (target l.body).node ≢ 255 → MayLeave i l
+  ByRouter : (a : Addr) (r : ℕ) → l.next ≡ next.Station a → owner i l.cable a ≡ Some r → (target l.body).net ≢ 0 → MayLeave i l
+  ToThem : l.next ≡ next.All → cable_holds i l.cable (target l.body).net ≡ true → (target l.body).node ≡ 255 → MayLeave i l
+  OnCable : l.next ≡ next.All → (target l.body).net ≡ 0 → (target l.body).node ≡ 255 → MayLeave i l
+  ToThese : (g : ℕ) → g < 253 → l.next ≡ next.Group g → (target l.body).net ≡ 0 → (target l.body).node ≡ 255 → MayLeave i l
 
 -- A station made the leg's datagram: it is on the cable, the datagram is whole with hop count 0, and it leaves in a way
--- that `Goes` allows.
+-- that `MayLeave` allows.
 pub record IsMade (i : Internet) (l : Leg) : Type 0 where
   pub seated : is_on i l.station l.cable ≡ true
   pub whole : IsBody l.body
   pub fresh : l.hops ≡ 0
-  pub goes : Goes i l
+  pub goes : MayLeave i l
 
 -- ---- Requests that end at a router
 

@@ -29,4 +29,4 @@ pub data Block (i : Internet) (t : List Entry) : List Entry → Type 0 where
 -- A transcript is legal if it is a sequence of such blocks.
 pub data IsLegal (i : Internet) : List Entry → Type 0 where
   Begins : IsLegal i []
-  Goes : (t block : List Entry) → IsLegal i t → Block i t block → IsLegal i (t ++ block)
+  Continues : (t block : List Entry) → IsLegal i t → Block i t block → IsLegal i (t ++ block)

@@ -23,4 +23,4 @@ pub data LossyBlock (i : Internet) (t : List Entry) : List Entry → Type 0 wher
 -- A transcript is legal with losses if it is a sequence of such blocks.
 pub data IsLegalWithLosses (i : Internet) : List Entry → Type 0 where
   Begins : IsLegalWithLosses i []
-  Goes : (t block : List Entry) → IsLegalWithLosses i t → LossyBlock i t block → IsLegalWithLosses i (t ++ block)
+  Continues : (t block : List Entry) → IsLegalWithLosses i t → LossyBlock i t block → IsLegalWithLosses i (t ++ block)

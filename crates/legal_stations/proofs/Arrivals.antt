@@ -18,7 +18,7 @@ use Rattle.cable_model.specs.declared.entry.How.TheVariants as how
 use Rattle.cable_model.specs.declared.seat.Seat.{Seat}
 use Rattle.cable_model.proofs.Counting.{At, contained_at, each-append, each_at, filter_at}
 use Rattle.ddp.specs.Bodies.{body, hops, target}
-use Rattle.legal_runs.specs.Answers.{ByRouter, Goes, IsBody, IsMade, OnCable, Straight, ToThem, ToThese}
+use Rattle.legal_runs.specs.Answers.{ByRouter, MayLeave, IsBody, IsMade, OnCable, Straight, ToThem, ToThese}
 use Rattle.legal_runs.specs.Legal.{IsLegal}
 use Rattle.legal_runs.specs.Losses.{Another, Nothing as NoneSaid, Said}
 use Rattle.legal_runs.specs.Legs.{Leg, fate, fate_by, final, found_at, is_copy, is_unicast, leg, leg_bytes, passed, places_of, sender}
@@ -89,7 +89,7 @@ group_is g lt = ap (λ b. not (is_all (group_hw g)) && not (true && b)) (lt-ltb 
     last false = refl
 
 module _ (i : Internet) (ok : Passes i) where
-  goes_next : (l : Leg) → Goes i l → IsNextOf (target l.body).net l.next
+  goes_next : (l : Leg) → MayLeave i l → IsNextOf (target l.body).net l.next
   goes_next l (Straight e on single one) =
       subst (IsNextOf (target l.body).net) (sym e)
       (λ z. (let low = listed_some i ok (target l.body).net l.cable (home_is i ok (target l.body).net l.cable on) in absurd (omega

@@ -13,7 +13,7 @@ use Rattle.table_image.specs.declared.cable.Cable.{Cable}
 use Rattle.audit.specs.Places.{index_of, on}
 use Rattle.audit.specs.Routing.{home}
 use Rattle.audit.specs.Rules.{Passes}
-use Rattle.audit.specs.Walks.{Goes, Steps, Stops}
+use Rattle.audit.specs.Walks.{StepsTo, Steps, Stops}
 use Rattle.audit.specs.ZoneLists.{ranges_with}
 use Rattle.audit.proofs.WalkFacts.{is_between_when, not_both}
 use Rattle.audit.proofs.WalkLists.{At, at_within}
@@ -95,7 +95,7 @@ module _ (i : Internet) (ok : Passes i) (r : ℕ) (h : Holding) (holder : HoldsR
         by (Stops here near port) =
             let found = some_port i holder.router c cable there test r holder.known port own_range in
             absurd (not_both (index_of (of_range i test) holder.router.ports) found.0 (sym ports_are ∙ none) found.1)
-        by (Goes s d a handed own below nearer mine its other) =
+        by (StepsTo s d a handed own below nearer mine its other) =
             let m = forwarded i ok r h holder summed p it cable.start c s d a listed handed own in
             record { port = m.port; to = m.to; bytes = m.bytes; is = m.is; kind = inr m.kind; made = m.made }
 

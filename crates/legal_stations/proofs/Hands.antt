@@ -7,7 +7,7 @@ use Rattle.at_base.specs.declared.error.Place.TheVariants as place
 use Rattle.audit.specs.Places.{on}
 use Rattle.audit.specs.Routing.{Here, On, Nowhere, hand, hand_at, hand_by, hand_over, hand_to, home, owner, row_for}
 use Rattle.audit.specs.Rules.{Passes, at_row, bad_range, cable_of, is_for}
-use Rattle.audit.specs.Walks.{Goes, Stops}
+use Rattle.audit.specs.Walks.{StepsTo, Stops}
 use Rattle.audit.proofs.WalkFacts.{between_is, for_is, is_between_when, some_of}
 use Rattle.audit.proofs.WalkLists.{At, at_within, find_at, index_at, index_found}
 use Rattle.audit.proofs.WalkSteps.{steps}
@@ -57,7 +57,7 @@ module _ (i : Internet) (ok : Passes i) (r : ℕ) (h : Holding) (holds : HoldsRo
   not_nowhere c listed e =
       elim (steps i ok r n c (at_within i.routers r router holds.known) listed) as (λ _. ⊥) [
         | Stops here none port ↦ (let x : Here c ≡ Nowhere = sym here ∙ e in cc)
-        | Goes s d a there own less nearer mine its other ↦ (let x : On s d a ≡ Nowhere = sym there ∙ e in cc)
+        | StepsTo s d a there own less nearer mine its other ↦ (let x : On s d a ≡ Nowhere = sym there ∙ e in cc)
       ]
 
   -- A datagram is put only on its home cable.
@@ -65,7 +65,7 @@ module _ (i : Internet) (ok : Passes i) (r : ℕ) (h : Holding) (holds : HoldsRo
   put_home c d listed e =
       elim (steps i ok r n c (at_within i.routers r router holds.known) listed) as (λ _. home i n ≡ Some d) [
         | Stops here none port ↦ (let x : Here c ≡ Here d = sym here ∙ e in let y : c ≡ d = cc in listed ∙ ap Some y)
-        | Goes s x a there own less nearer mine its other ↦ (let y : On s x a ≡ Here d = sym there ∙ e in cc)
+        | StepsTo s x a there own less nearer mine its other ↦ (let y : On s x a ≡ Here d = sym there ∙ e in cc)
       ]
 
   module _ (row : Row) (found : row_for router.rows n ≡ Some row) where

@@ -11,7 +11,7 @@ use Rattle.ddp.specs.Bodies.{target, with_hops}
 use Rattle.ddp.specs.Datagram.{datagram, datagram_of}
 use Rattle.ddp.proofs.Written.{Fitting}
 use Rattle.legal_stations.specs.Made.{legs}
-use Rattle.legal_runs.specs.Answers.{Goes, IsBody, IsMade, IsOwn, Straight, ToThem, is_other}
+use Rattle.legal_runs.specs.Answers.{MayLeave, IsBody, IsMade, IsOwn, Straight, ToThem, is_other}
 use Rattle.legal_runs.specs.Legal.{Block, Sends, said}
 use Rattle.legal_runs.specs.Legs.{Leg, leg, leg_bytes, places_of, sender}
 use Rattle.legal_runs.specs.Requests.{is_broadcast, is_forward, is_lookup}
@@ -137,7 +137,7 @@ is_quiet o = not (is_broadcast o || is_forward o || is_lookup o)
 pub record IsWay (i : Internet) (s : ℕ) (w : Way) : Type 0 where
   pub fits : Fitting w.header
   pub seated : is_on i s (cable_of (cable_seats i) s w.port) ≡ true
-  pub goes : (l : Leg) → l.cable ≡ cable_of (cable_seats i) s w.port → l.next ≡ w.next → target l.body ≡ w.header.target → Goes i l
+  pub goes : (l : Leg) → l.cable ≡ cable_of (cable_seats i) s w.port → l.next ≡ w.next → target l.body ≡ w.header.target → MayLeave i l
 
 -- If there is a way, datagrams leave by it in an allowed way.
 abbrev pub MayGo : Internet → ℕ → Option Way → Type 0
@@ -180,13 +180,13 @@ module _ (i : Internet) (s n : ℕ) where
 
 -- Directly to a target on the cable.
 pub goes_straight : (i : Internet) (a : Addr) (c : ℕ) → cable_holds i c a.net ≡ true → (a.node == 0) ≡ false → (l : Leg) → l.cable ≡ c
-    → l.next ≡ straight a → target l.body ≡ a → Goes i l
+    → l.next ≡ straight a → target l.body ≡ a → MayLeave i l
 goes_straight i a c holds some l on to for = by (a.node == 255) refl
   where
     here : cable_holds i l.cable (target l.body).net ≡ true
     here = ap (λ k. cable_holds i k (target l.body).net) on ∙ (ap (λ (t : Addr). cable_holds i c t.net) for ∙ holds)
 
-    by : (b : Bool) → (a.node == 255) ≡ b → Goes i l
+    by : (b : Bool) → (a.node == 255) ≡ b → MayLeave i l
     by true e =
         ToThem (to ∙ ap (λ b. cond b next.All (next.Station a)) e) here (ap (λ (t : Addr). t.node) for ∙ eqb-true a.node 255 e)
     by false e =

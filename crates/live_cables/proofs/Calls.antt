@@ -18,7 +18,7 @@ use Rattle.cable_model.specs.declared.seat.Seat.{Seat}
 use Rattle.cable_model.proofs.Counting.{contained_at, count-append}
 use Rattle.live_cables.proofs.Pending.{both, has_any, or_first, or_second}
 use Rattle.live_cables.proofs.Played.{allowed_append, due_append, losses-append, nothing_played, played_then}
-use Rattle.live_cables.specs.Living.{IsLossDue, IsTakenBy, Plays, PlaysOn, Stays, Wires, happened, loses}
+use Rattle.live_cables.specs.Living.{IsLossDue, IsTakenBy, AddsAllowed, PlaysOn, Stays, Wires, happened, loses}
 use Rattle.live_cables.specs.Playing.{AreDue, IsDueThen, IsPlayed, are_allowed, is_in, is_took, losses, may_be}
 use Rattle.live_cables.proofs.Losses.{all_losses}
 use Rattle.live_cables.specs.Steps.{IsSendable, Loses, Puts, Takes, are_calm, are_gone, is_loss, losses_since}
@@ -228,7 +228,7 @@ module _ (taken : ℕ) (old new : Wires) (mid : Cabling) (front : List Line) (lo
   grown : happened new ≡ happened old ++ (m.added ++ l.added)
   grown = l.grown ∙ (ap (λ es. es ++ l.added) m.grown ∙ append_assoc (transcript old.cabling) m.added l.added)
 
-  pub plays_to : Plays old new
+  pub plays_to : AddsAllowed old new
   plays_to = record {
     added = m.added ++ l.added;
     grown = grown;
@@ -272,7 +272,7 @@ module _ (taken : ℕ) (old new : Wires) (mid : Cabling) (front : List Line) (lo
       subst (λ ss. are_gone ss new.cabling ≡ false) (these ∙ sym whole) due
 
 -- A call that stopped before its losses.
-pub plays_midst : (taken : ℕ) (old new : Wires) → Stays old new → Midst (loses old) taken old.cabling new.cabling → Plays old new
+pub plays_midst : (taken : ℕ) (old new : Wires) → Stays old new → Midst (loses old) taken old.cabling new.cabling → AddsAllowed old new
 plays_midst taken old new stays m = record {
   added = m.added;
   grown = m.grown;
@@ -285,7 +285,7 @@ plays_midst taken old new stays m = record {
 }
 
 -- A call that changed nothing.
-pub plays_kept : (old new : Wires) → Stays old new → new.cabling ≡ old.cabling → Plays old new
+pub plays_kept : (old new : Wires) → Stays old new → new.cabling ≡ old.cabling → AddsAllowed old new
 plays_kept old new stays e = record {
   added = [];
   grown = ap transcript e ∙ sym (append-nil (happened old));

@@ -11,7 +11,7 @@ use Rattle.live_cables.proofs.Learning.{set_same}
 use Rattle.live_cables.proofs.Released.{adds_none}
 use Rattle.live_cables.specs.Finding.{held_at}
 use Rattle.live_cables.specs.Holding.{AreShed, with_tick}
-use Rattle.live_cables.specs.Living.{GivesOut, PassesFor, Plays, PlaysOn, Stays, Wires, happened, knowing}
+use Rattle.live_cables.specs.Living.{GivesOut, PassesFor, AddsAllowed, PlaysOn, Stays, Wires, happened, knowing}
 use Rattle.live_cables.specs.Putting.{AreAsked}
 use Rattle.live_cables.specs.Steps.{Loses}
 use Rattle.station.specs.declared.output.Output.{Output}
@@ -24,7 +24,7 @@ fails_for_all : {X : Type 0} (xs : List X) → list_any (λ x. false) xs ≡ fal
 fails_for_all [] = refl
 fails_for_all (x ∷ xs) = fails_for_all xs
 
-pub plays_none : (w : Wires) → Plays w w
+pub plays_none : (w : Wires) → AddsAllowed w w
 plays_none w = record {
   added = [];
   grown = sym (append-nil (happened w));

@@ -15,7 +15,7 @@ use Rattle.live_cables.proofs.Calls.{calm_after, calm_takes}
 use Rattle.live_cables.proofs.Calm.{calm-append, let_go_calm}
 use Rattle.live_cables.proofs.Played.{lost_after}
 use Rattle.live_cables.specs.Holding.{AreShed}
-use Rattle.live_cables.specs.Living.{Plays, PlaysOn, Stays, Wires, happened, loses}
+use Rattle.live_cables.specs.Living.{AddsAllowed, PlaysOn, Stays, Wires, happened, loses}
 use Rattle.live_cables.specs.Playing.{is_took, losses}
 use Rattle.live_cables.specs.Steps.{Puts, are_calm}
 
@@ -122,7 +122,7 @@ part_more (s ∷ ss) n old mid new some x y =
 
 module _ (old new : Wires) (mid : Cabling) (stays : Stays old new) where
   -- A call whose last step changed nothing.
-  pub plays_still : Plays old (record old { cabling = mid }) → new.cabling ≡ mid → Plays old new
+  pub plays_still : AddsAllowed old (record old { cabling = mid }) → new.cabling ≡ mid → AddsAllowed old new
   plays_still p e = record {
     added = p.added;
     grown = ap transcript e ∙ p.grown;
@@ -140,7 +140,7 @@ module _ (old new : Wires) (mid : Cabling) (stays : Stays old new) where
     last = sheds_of ss mid new.cabling shed
 
     -- A call that gave up datagrams at last.
-    pub shed_plays : Plays old (record old { cabling = mid }) → Plays old new
+    pub shed_plays : AddsAllowed old (record old { cabling = mid }) → AddsAllowed old new
     shed_plays p =
         let q = last.puts in
         let calm = subst (λ l. are_calm l q.added ≡ true) p.grown q.calm in

@@ -46,7 +46,7 @@ pub record Stays (old new : Wires) : Type 0 where
 
 -- Entries were added that are allowed on cables that lose frames; the seats, their addresses, the limit, the ranges,
 -- and which cables lose frames stay the same.
-pub record Plays (old new : Wires) : Type 0 where
+pub record AddsAllowed (old new : Wires) : Type 0 where
   pub added : List Entry
   pub grown : happened new ≡ happened old ++ added
   pub played : IsPlayed old.cabling.seats (loses old) (happened old) added
@@ -59,7 +59,7 @@ pub record Plays (old new : Wires) : Type 0 where
 -- A call added allowed entries and finished: `taken` frames were taken, and all frames that were put on cables that
 -- lose frames are lost.
 pub record PlaysOn (taken : ℕ) (old new : Wires) : Type 0 where
-  pub plays : Plays old new
+  pub plays : AddsAllowed old new
   pub takes : count is_took plays.added ≡ taken
   pub lost : IsTrue (are_lost old.cabling.seats (loses old) (happened old) plays.added)
 

@@ -7,6 +7,7 @@ use Rattle.cable_model.specs.Holdings.{is_open}
 use Rattle.cable_model.specs.Logs.{Cabling, transcript, pending_on}
 use Rattle.cable_model.specs.Outcomes.{heard_by}
 use Rattle.cable_model.specs.Pending.{Pair}
+use Rattle.cable_model.specs.Rooms.{take_lines}
 use Rattle.cable_model.specs.Transcript.{Entry, Took, Lost}
 use Rattle.cable_model.specs.declared.entry.Entry.{Entry as Line}
 use Rattle.cable_model.specs.declared.entry.Entry.TheVariants as line
@@ -22,7 +23,7 @@ HasNoRoom more c = c.limit < length c.lines + more
 
 -- the most entries that a take may add where stations ask for hardware addresses
 abbrev pub most_taken : ℕ
-most_taken = 1285
+most_taken = take_lines 2
 
 -- The entry ends no pair: it takes no frame, and loses at most a datagram that is held.
 abbrev pub is_calm : List Entry → Entry → Bool

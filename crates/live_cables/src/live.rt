@@ -14,7 +14,7 @@ ghost use Rattle.cable_model.specs.Transcript.{ArePutOnce};
 ghost use Rattle.live_cables.specs.Finding.{held_at};
 ghost use Rattle.live_cables.specs.Holding.{AreFew};
 ghost use Rattle.live_cables.specs.Living.{GivesInPart, GivesOut, IsSentOver, IsTakenBy, PassesFor, PassesInPart};
-ghost use Rattle.live_cables.specs.Living.{IsLossRefused, Plays, PlaysOn, TakesIn, TakesStill, happened};
+ghost use Rattle.live_cables.specs.Living.{IsLossRefused, AddsAllowed, PlaysOn, TakesIn, TakesStill, happened};
 ghost use Rattle.live_cables.specs.Putting.{first_room};
 ghost use Rattle.live_cables.specs.Steps.{HasNoRoom, most_taken};
 ghost use Rattle.station.specs.Lawful.{AreLawful, IsNext};
@@ -142,7 +142,7 @@ impl LiveCables {
     /// all of them are sent, and not all frames that were to be lost are lost.
     pub fn give(&mut self, station: u16, outputs: &mut Outputs) -> Result<(), Error>
         requires lawful { (n : ℕ) × AreLawful n outputs.old.items }
-        ensures plays { Plays self.old self.new }
+        ensures plays { AddsAllowed self.old self.new }
         ensures given { OnOk result
             (GivesOut station outputs.old.items self.old self.new) }
         ensures part { IfErr result (λ e.
@@ -225,7 +225,7 @@ impl LiveCables {
     /// `Memory`: the take is done then, and not all of them are lost.
     pub fn take<S: Taker>(&mut self, stamp: u32, station: u16, taker: &mut S) -> Result<(), Error>
         requires { AreSeatsOf self.old.cabling.seats station (S.ports_of taker.old) }
-        ensures plays { Plays self.old self.new }
+        ensures plays { AddsAllowed self.old self.new }
         ensures taken { OnOk result (TakesIn stamp station (S.ports_of taker.old)
             (λ h added. S.hears taker.old h added taker.new) self.old self.new) }
         ensures done { OnOk result (PlaysOn 1 self.old self.new) }
@@ -286,7 +286,7 @@ impl LiveCables {
     /// Errors, frame by frame: `Full`, `Memory`. After an error the mappings have advanced, and what
     /// was sent and lost before it stays so.
     pub fn pass(&mut self, seat: usize) -> Result<Addresses, Error>
-        ensures plays { Plays self.old self.new }
+        ensures plays { AddsAllowed self.old self.new }
         ensures passed { OnOk result (PassesFor seat self.old self.new) }
         ensures part { OnErr result (PassesInPart seat self.old self.new) }
         ensures done { OnOk result (PlaysOn 0 self.old self.new) }

@@ -26,13 +26,15 @@ use Rattle.pcapng.specs.declared.order.Order.{Order}
 abbrev pub max_interfaces : ℕ
 max_interfaces = 256
 
--- the types of blocks that are read, beside section headers: an interface, a packet, statistics
+-- the type of a block that describes an interface
 abbrev pub interface_kind : ℕ
 interface_kind = 1
 
+-- the type of a block with a packet
 abbrev pub packet_kind : ℕ
 packet_kind = 6
 
+-- the type of a block with statistics
 abbrev pub statistics_kind : ℕ
 statistics_kind = 5
 

@@ -241,5 +241,5 @@ module _ (i : Internet) (ok : Passes i) (fit : SeatsFit i) where
 
   pub asked_for : (t : List Entry) → IsLegalResolved i t → AreAskedFor i t
   asked_for t resolved.Begins = λ h s there found. nothing_held h s (in_list [] h there)
-  asked_for t (resolved.Goes front block legal b) =
+  asked_for t (resolved.Continues front block legal b) =
       block_asked front block b (erases i ok fit front legal) (asked_for front legal)

@@ -14,7 +14,7 @@ use Rattle.table_image.specs.Internet.{Internet}
 use Rattle.table_image.specs.Seats.{Seat as PlaceOf, seat_at, seats}
 use Rattle.audit.specs.Routing.{Here, hand, home}
 use Rattle.audit.specs.Rules.{Passes}
-use Rattle.audit.specs.Walks.{Stops, Goes as GoesBy}
+use Rattle.audit.specs.Walks.{Stops, StepsTo as GoesBy}
 use Rattle.audit.proofs.Finding.{any_at}
 use Rattle.audit.proofs.SeatUnique.{addressed, unique}
 use Rattle.audit.proofs.WalkFacts.{owner_is}
@@ -28,7 +28,7 @@ use Rattle.cable_model.specs.Outcomes.{to_other, to_target}
 use Rattle.cable_model.specs.Pending.{Pair, pairs, pairs_of}
 use Rattle.cable_model.specs.Transcript.{Entry, Frame, Put, Reached, Dropped, count, one}
 use Rattle.cable_model.proofs.Counting.{At, each_more}
-use Rattle.legal_runs.specs.Answers.{ByRouter, Goes, IsMade, OnCable, Straight, ToThem, ToThese}
+use Rattle.legal_runs.specs.Answers.{ByRouter, MayLeave, IsMade, OnCable, Straight, ToThem, ToThese}
 use Rattle.legal_runs.specs.Legs.{Leg, fate, fate_by, final, found_at, is_copy, is_datagram, is_unicast, leg, leg_bytes, passed, sender}
 use Rattle.legal_runs.specs.Stations.{cable_seat, cable_seats, has_address}
 use Rattle.legal_runs.proofs.Does.{HopsFine, IsOf}
@@ -207,7 +207,7 @@ module _ (i : Internet) (ok : Passes i) (b : List ℕ) (c : ℕ) (s : PlaceOf) (
     no_all : (target l.body).node ≡ 255 → ⊥
     no_all e = let high = (one_node l.body same).1 in absurd (omega (arith, e, high))
 
-    goes_once : Goes i l → Bears i s.station b 1 (leg i stamp l)
+    goes_once : MayLeave i l → Bears i s.station b 1 (leg i stamp l)
     goes_once (Straight goes on single other) = to_it goes (cable_same (home_is i ok (target l.body).net l.cable on))
     goes_once (ByRouter a r goes own some) =
         let w = owner_is i l.cable a r own in

@@ -15,7 +15,7 @@ use Rattle.cable_model.proofs.Stamps.{next_after}
 use Rattle.legal_runs.specs.Answers.{Answers, IsMade, IsOwn}
 use Rattle.legal_runs.specs.Legs.{Leg, fate}
 use Rattle.legal_runs.specs.Losses.{WithLosses}
-use Rattle.legal_runs.specs.LossyRuns.{Begins, Goes, IsLegalWithLosses, LossyBlock, Sends, Takes}
+use Rattle.legal_runs.specs.LossyRuns.{Begins, Continues, IsLegalWithLosses, LossyBlock, Sends, Takes}
 use Rattle.legal_runs.specs.Stations.{cable_seats}
 use Rattle.legal_runs.proofs.Frames.{Framed}
 use Rattle.legal_runs.proofs.Lossy.{lossy_pending, whole_is}
@@ -58,7 +58,7 @@ module _ (i : Internet) (ok : Passes i) (fit : SeatsFit i) where
     sends l made own =
         let w = said_done i ok fit t (l ∷ []) e.told (made_ready i ok fit l made, tt) in
         grows (resolved_said i t (l ∷ [])) w.0 w.2
-        (Goes (plain i t) (plain_after i t (resolved_said i t (l ∷ []))) e.legal
+        (Continues (plain i t) (plain_after i t (resolved_said i t (l ∷ []))) e.legal
         (Sends l w.0 (plain_after i t (resolved_said i t (l ∷ []))) made own
         (said_less i (next_stamp (plain i t)) (next_stamp t) (l ∷ []) w.0 (plain_next i t) w.1) w.2.plain_is))
 
@@ -120,7 +120,7 @@ module _ (i : Internet) (ok : Passes i) (fit : SeatsFit i) where
           (subst (λ x. WithLosses i x (ps ++ w.0) (plain_after i u (resolved_handled i u p answers))) plain_u both.plain_is) in
           grows (taking p ∷ resolved_handled i u p answers) (taking p ∷ (ps ++ w.0)) all
           (subst (λ l. IsLegalWithLosses i (plain i t ++ (l ++ plain_after i u (resolved_handled i u p answers)))) (sym plain_took_is)
-          (Goes (plain i t) (taking p ∷ plain_after i u (resolved_handled i u p answers)) e.legal block))
+          (Continues (plain i t) (taking p ∷ plain_after i u (resolved_handled i u p answers)) e.legal block))
 
       resolves : p.frame.kind ≡ Aarp → Erases (t ++ taking p ∷ resolving i (t ++ taking p ∷ []) p)
       resolves kind =
@@ -142,4 +142,4 @@ module _ (i : Internet) (ok : Passes i) (fit : SeatsFit i) where
   -- The law of erasure, with what is known of each entry.
   pub erases : (t : List Entry) → IsLegalResolved i t → Erases t
   erases t resolved.Begins = record { told = Nothing; fits = tt; legal = Begins }
-  erases t (resolved.Goes front block legal b) = event front block b (erases front legal)
+  erases t (resolved.Continues front block legal b) = event front block b (erases front legal)

@@ -11,7 +11,7 @@ use Rattle.legal_runs.specs.Answers.{IsMade}
 use Rattle.legal_runs.specs.Legs.{Leg}
 use Rattle.legal_runs.specs.Stations.{cable_seats}
 use Rattle.resolved_runs.specs.Resolved.{resolved_leg, resolved_said, resolving}
-use Rattle.resolved_runs.specs.ResolvedRuns.{Begins, Goes, IsLegalResolved, ResolvedBlock, Resolves, Sends, Takes}
+use Rattle.resolved_runs.specs.ResolvedRuns.{Begins, Continues, IsLegalResolved, ResolvedBlock, Resolves, Sends, Takes}
 use Rattle.resolved_runs.specs.ResolvedRuns.{resolved_fate, taking}
 
 -- The station made the leg, with this body.
@@ -114,7 +114,7 @@ module _ (i : Internet) where
   pub legal_follows : (t : List Entry) → IsLegalResolved i t → Follows i [] [] t
   unfolding Follows
   legal_follows t Begins = tt
-  legal_follows t (Goes front block legal b) = follows-append [] [] front block (legal_follows front legal) (block_follows front block b)
+  legal_follows t (Continues front block legal b) = follows-append [] [] front block (legal_follows front legal) (block_follows front block b)
 
 -- These entries follow, the first ones being those that are expected.
 pub record Runs (i : Internet) (t xs es : List Entry) : Type 0 where

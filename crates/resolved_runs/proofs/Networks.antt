@@ -20,7 +20,7 @@ use Rattle.cable_model.specs.Outcomes.{Places, Sender, framed as framed_by, leg 
 use Rattle.cable_model.specs.Pending.{Pair, pending}
 use Rattle.cable_model.specs.Transcript.{Entry, Sent, Put, Took, Reached, Dropped, Lost, Hold, stamps}
 use Rattle.cable_model.proofs.Counting.{contained_at, each-append}
-use Rattle.legal_runs.specs.Answers.{ByRouter, Goes, IsMade, OnCable, Straight, ToThem, ToThese}
+use Rattle.legal_runs.specs.Answers.{ByRouter, MayLeave, IsMade, OnCable, Straight, ToThem, ToThese}
 use Rattle.legal_runs.specs.Legs.{Leg, fate, fate_by, final, is_copy, is_unicast, leg, leg_bytes, passed, places_of, sender}
 use Rattle.legal_runs.specs.Losses.{Another, Nothing as NothingSaid, Said}
 use Rattle.legal_runs.specs.LossyRuns.{IsLegalWithLosses}
@@ -98,7 +98,7 @@ module _ (places : Places) (s : Sender) (bytes : List ℕ) where
       group_is = ap (λ b. not (is_all (group_hw g)) && not (true && b)) (lt-ltb g 253 lt) ∙ last (is_all (group_hw g))
 
 module _ (i : Internet) (ok : Passes i) where
-  goes_some : (stamp : ℕ) (l : Leg) → Goes i l → Each IsSome (leg i stamp l)
+  goes_some : (stamp : ℕ) (l : Leg) → MayLeave i l → Each IsSome (leg i stamp l)
   goes_some stamp l (Straight e on single one) =
       let low = listed_some i ok (target l.body).net l.cable (home_is i ok (target l.body).net l.cable on) in
       leg_some (places_of i) (sender stamp l) (leg_bytes l)

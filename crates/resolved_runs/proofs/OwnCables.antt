@@ -14,7 +14,7 @@ use Rattle.table_image.specs.declared.row.Row.{Row}
 use Rattle.audit.specs.Places.{on}
 use Rattle.audit.specs.Routing.{Here, On, hand, hand_at, hand_by, hand_over, hand_to, home, owner, row_for}
 use Rattle.audit.specs.Rules.{Passes, at_row, bad_direct, bad_range, cable_of, is_for, port_on}
-use Rattle.audit.specs.Walks.{HasPort, Stops, Goes as GoesBy}
+use Rattle.audit.specs.Walks.{HasPort, Stops, StepsTo as GoesBy}
 use Rattle.audit.proofs.SeatPlaces.{AtNode, AtPort, sits}
 use Rattle.audit.proofs.WalkFacts.{between_is, for_is, indirect_is, is_between_when, not_both, some_of}
 use Rattle.audit.proofs.WalkLists.{At, at_one, find_at, index_at, index_found}

@@ -9,7 +9,7 @@ use Rattle.station.specs.declared.output.Next.TheVariants as next
 use Rattle.cable_model.specs.Pending.{Pair, pending}
 use Rattle.cable_model.specs.Transcript.{Entry, Sent, Took}
 use Rattle.cable_model.proofs.Counting.{contained_at, each_at}
-use Rattle.legal_runs.specs.Answers.{ByRouter, Goes, OnCable, Straight, ToThem, ToThese}
+use Rattle.legal_runs.specs.Answers.{ByRouter, MayLeave, OnCable, Straight, ToThem, ToThese}
 use Rattle.legal_runs.specs.Legs.{Leg}
 use Rattle.legal_runs.specs.Stations.{cable_holds, cable_seats, is_on}
 use Rattle.resolved_runs.specs.Resolved.{resolved_leg}
@@ -35,7 +35,7 @@ pub record HasWay (i : Internet) (s c : ℕ) (a : Addr) (b : List ℕ) : Type 0 
   pub off : cable_holds i c (target b).net ≡ true → target b ≡ a
 
 module _ (i : Internet) (s c : ℕ) (a : Addr) (b : List ℕ) (way : HasWay i s c a b) where
-  next_is : (l : Leg) → l.cable ≡ c → l.body ≡ b → Goes i l → l.next ≡ next.Station a
+  next_is : (l : Leg) → l.cable ≡ c → l.body ≡ b → MayLeave i l → l.next ≡ next.Station a
   next_is l ec eb (Straight e h n m) =
       let f = subst (λ k. cable_holds i k (target b).net ≡ true) ec (subst (λ d. cable_holds i l.cable (target d).net ≡ true) eb h) in
       e ∙ ap next.Station (ap target eb ∙ way.off f)

@@ -10,7 +10,7 @@ use Rattle.cable_model.specs.Transcript.{stamp_after, stamp_from}
 use Rattle.cable_model.proofs.Stamps.{above_more, stamp_from-append}
 use Rattle.legal_runs.specs.Legs.{Leg}
 use Rattle.legal_runs.specs.Losses.{Another, Ends, Keeps, Loses, Nothing as NoneSaid, Said, WithLosses}
-use Rattle.legal_runs.specs.LossyRuns.{Goes, IsLegalWithLosses, Loses as LosesOne}
+use Rattle.legal_runs.specs.LossyRuns.{Continues, IsLegalWithLosses, Loses as LosesOne}
 use Rattle.legal_runs.proofs.Rises.{stamp_from_less}
 use Rattle.resolved_runs.specs.Plain.{plain, plain_after, plain_entry}
 use Rattle.resolved_runs.specs.Mapped.{frame_of}
@@ -82,4 +82,4 @@ module _ (i : Internet) where
   lossy_more t es fs none (Keeps u e xs ys w) legal = cc
   lossy_more t es fs none (Loses u p xs ys there w) legal =
       subst (IsLegalWithLosses i) (append_assoc u (Lost p.frame.stamp ∷ []) ys)
-      (lossy_more (u ++ Lost p.frame.stamp ∷ []) xs ys none w (Goes u (Lost p.frame.stamp ∷ []) legal (LosesOne p there)))
+      (lossy_more (u ++ Lost p.frame.stamp ∷ []) xs ys none w (Continues u (Lost p.frame.stamp ∷ []) legal (LosesOne p there)))

@@ -17,7 +17,7 @@ use Rattle.cable_model.specs.Pending.{Pair}
 use Rattle.cable_model.specs.Transcript.{Entry, Sent, Reached, Dropped, next_stamp}
 use Rattle.cable_model.specs.Transcript.{stamps}
 use Rattle.cable_model.proofs.Stamps.{next_after}
-use Rattle.legal_runs.specs.Answers.{ByRouter, Goes as Ways, IsMade, OnCable, Straight, ToThem, ToThese}
+use Rattle.legal_runs.specs.Answers.{ByRouter, MayLeave as Ways, IsMade, OnCable, Straight, ToThem, ToThese}
 use Rattle.legal_runs.specs.Legs.{Leg, fate, fate_by, final, is_copy, leg, leg_bytes, passed}
 use Rattle.legal_runs.specs.Losses.{Another, Nothing as NoneSaid, Said}
 use Rattle.legal_runs.specs.Stations.{has_address}

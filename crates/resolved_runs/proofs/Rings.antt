@@ -156,7 +156,7 @@ IsOther e = (is_loss e ≡ false) × (is_held_there e ≡ false) × (holds_of e 
 other_more : (t : List Entry) (e : Entry) → Rings t → IsOther e → Rings (t ++ e ∷ [])
 other_more t e r other = record {
   shed = ring.Other t e r.shed other.0;
-  reached = ring.Goes t e r.reached other.1;
+  reached = ring.Continues t e r.reached other.1;
   few = λ s c.
       let a = number_is s c (t ++ e ∷ []) in
       let b = number_is s c t in
@@ -227,7 +227,7 @@ module _ (t : List Entry) (station : ℕ) (w : Held) (r : Rings t) (reached : Ar
   without_room g gs is full = record {
     shed = ring.Full t new g.stamp r.shed (record { oldest = g; others = gs; in_order = is; all = full; numbered = refl });
     reached = subst AreHeldAsReached (append_assoc t (Hold new ∷ []) (Lost g.stamp ∷ []))
-        (ring.Goes with_new (Lost g.stamp) reached refl);
+        (ring.Continues with_new (Lost g.stamp) reached refl);
     few = subst (λ u. (s c : ℕ) → length (held_at u s c) ≤ max_held) (append_assoc t (Hold new ∷ []) (Lost g.stamp ∷ []))
         (few_then (with_new ++ Lost g.stamp ∷ [])
         (λ s c. let le = no_more s c with_new (Lost g.stamp) refl in let one = one_more s c t new in omega (arith, le, one))
@@ -372,7 +372,7 @@ module _ (i : Internet) where
             (held_more u l.station w first there i)
         by false is =
             subst (λ v. Rings (t ++ held_entries v l.station w (held_by_port i v l.station w))) (sym (append-nil t))
-            (held_more t l.station w r (ring.Goes t (Hold (held_as t l.station w)) r.reached is) i)
+            (held_more t l.station w r (ring.Continues t (Hold (held_as t l.station w)) r.reached is) i)
 
   leg_more : (t : List Entry) (l : Leg) → Rings t → Rings (t ++ resolved_leg i t l)
   leg_more t l r = by l.next
@@ -456,7 +456,7 @@ module _ (i : Internet) where
   -- Every transcript that is legal with resolution.
   pub rings : (t : List Entry) → IsLegalResolved i t → Rings t
   rings t resolved.Begins = rings_none
-  rings t (resolved.Goes front block legal b) = block_more front block b (rings front legal)
+  rings t (resolved.Continues front block legal b) = block_more front block b (rings front legal)
 
 -- ---- Where no port holds seventeen at once
 

@@ -72,7 +72,7 @@ shed_back t stamp (ring.Full u d lost shed oldest) is =
 reached_back : (t : List Entry) (h : Holding) → AreHeldAsReached t → last t ≡ Some (Hold h) → is_held_there (Hold h) ≡ true
     → last (before t) ≡ Some (Reached h.cable h.station how.Held (body h.bytes))
 reached_back t h ring.Begins is there = cc
-reached_back t h (ring.Goes u e before_it other) is there =
+reached_back t h (ring.Continues u e before_it other) is there =
     let same : e ≡ Hold h = some_is e (Hold h) (sym (last_of u e) ∙ is) in
     absurd (true≢false (sym there ∙ (ap is_held_there (sym same) ∙ other)))
 reached_back t h (ring.Arrives u d before_it) is there =

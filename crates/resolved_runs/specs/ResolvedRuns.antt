@@ -37,4 +37,4 @@ pub data ResolvedBlock (i : Internet) (t : List Entry) : List Entry → Type 0 w
 -- A transcript is legal with resolution if it is a sequence of such blocks.
 pub data IsLegalResolved (i : Internet) : List Entry → Type 0 where
   Begins : IsLegalResolved i []
-  Goes : (t block : List Entry) → IsLegalResolved i t → ResolvedBlock i t block → IsLegalResolved i (t ++ block)
+  Continues : (t block : List Entry) → IsLegalResolved i t → ResolvedBlock i t block → IsLegalResolved i (t ++ block)

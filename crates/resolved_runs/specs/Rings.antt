@@ -18,7 +18,7 @@ is_held_there _ = false
 -- reached its cable: so once each time, also where no station has that address.
 pub data AreHeldAsReached : List Entry → Type 0 where
   Begins : AreHeldAsReached []
-  Goes : (t : List Entry) (e : Entry) → AreHeldAsReached t → is_held_there e ≡ false → AreHeldAsReached (t ++ e ∷ [])
+  Continues : (t : List Entry) (e : Entry) → AreHeldAsReached t → is_held_there e ≡ false → AreHeldAsReached (t ++ e ∷ [])
   Arrives : (t : List Entry) (h : Holding) → AreHeldAsReached t
       → AreHeldAsReached (t ++ Reached h.cable h.station Held (body h.bytes) ∷ Hold h ∷ [])
 

@@ -4,12 +4,11 @@ use Rattle.cable_model.specs.Logs.{Adds, Cabling, pending_on, transcript}
 use Rattle.cable_model.specs.Outcomes.{Places, sent_entries}
 use Rattle.cable_model.specs.Outgoing.{IsTakenAtOnce}
 use Rattle.cable_model.specs.Pending.{Pair}
-use Rattle.cable_model.specs.Rooms.{held_rooms, known_rooms}
+use Rattle.cable_model.specs.Rooms.{held_rooms, known_rooms, sent_lines, take_lines}
 use Rattle.cable_model.specs.Transcript.{Entry}
 use Rattle.image_cables.specs.Settled.{cable_ranges, seat_addresses, seat_maps}
 use Rattle.legal_runs.specs.Stations.{cable_seats}
 use Rattle.live_cables.specs.Living.{IsSentOver, TakesStill}
-use Rattle.live_cables.specs.Steps.{most_taken}
 use Rattle.resolved_runs.specs.Fitting.{SeatsFit}
 use Rattle.run_cables.specs.declared.wiring.Wiring.{Wiring}
 use Rattle.run_cables.specs.declared.wiring.Wiring.TheVariants.{Known, Asking}
@@ -34,13 +33,13 @@ pending_for w = pending_on (cabling_of w)
 
 -- The entries for which a take needs room.
 abbrev pub take_room : Wiring → ℕ
-take_room (Known c) = 771
-take_room (Asking w) = most_taken
+take_room (Known c) = take_lines 0
+take_room (Asking w) = take_lines 2
 
 -- The entries for which a sending needs room.
 abbrev pub send_room : Wiring → ℕ
-send_room (Known c) = 3
-send_room (Asking w) = 5
+send_room (Known c) = sent_lines 0
+send_room (Asking w) = sent_lines 2
 
 -- The cables have the room of their kind, and lose no frames.
 abbrev pub AreStill : Wiring → Type 0

@@ -18,13 +18,15 @@ abbrev pub row : ℕ → ℕ → ℕ → Addr → ℕ → State → Row
 row start end distance next port state =
     record { start = start; end = end; distance = distance; port = port; next = next; state = state }
 
--- the cables 10-19, 20-29, 30-39 and 40-49, of one zone, and their complete lists
+-- a cable of one zone, with these networks
 abbrev pub cable : ℕ → ℕ → Cable
 cable start end = record { start = start; end = end; zones = codes "Red" ∷ [] }
 
+-- the complete list of that zone, of a range
 abbrev pub list : ℕ → ℕ → ZoneList
 list start end = record { start = start; end = end; complete = true; zones = codes "Red" ∷ [] }
 
+-- the lists of 10-19, 20-29, 30-39 and 40-49
 abbrev pub lists : List ZoneList
 lists = list 10 19 ∷ list 20 29 ∷ list 30 39 ∷ list 40 49 ∷ []
 

@@ -12,10 +12,10 @@ use Rattle.cable_model.specs.Pending.{Pair, pending}
 use Rattle.cable_model.specs.Transcript.{ArePutOnce, Entry, Sent, Put, Took, Reached, Dropped, Lost, Hold}
 use Rattle.cable_model.specs.declared.seat.Seat.{Seat}
 use Rattle.live_cables.proofs.Played.{lost_then, nothing_lost, nothing_played, played_then}
-use Rattle.live_cables.specs.Living.{Plays, PlaysOn, Wires, happened, loses}
+use Rattle.live_cables.specs.Living.{AddsAllowed, PlaysOn, Wires, happened, loses}
 use Rattle.live_cables.specs.Playing.{IsPlayed, are_allowed, are_lost, is_in, is_took, losses}
 use Rattle.live_cables.specs.Steps.{HasNoRoom, loses_by}
-use Rattle.world.specs.Going.{Did, Ends, Goes, GoesOn}
+use Rattle.world.specs.Going.{Did, Ends, AddsIfNumbered, GoesOn}
 
 pub goes_none : (w : Wires) → GoesOn 0 w w
 goes_none w = record {
@@ -31,10 +31,10 @@ goes_none w = record {
   lost = λ n. nothing_lost w.cabling.seats (loses w) (happened w);
 }
 
-pub goes_nowhere : (w : Wires) → Goes w w
+pub goes_nowhere : (w : Wires) → AddsIfNumbered w w
 goes_nowhere w = (goes_none w).goes
 
-pub goes_plays : (old new : Wires) → Plays old new → Goes old new
+pub goes_plays : (old new : Wires) → AddsAllowed old new → AddsIfNumbered old new
 goes_plays old new x = record {
   added = x.added;
   grown = x.grown;
@@ -55,7 +55,7 @@ goes_plays_on taken old new x = record {
 -- ---- Two steps
 
 module _ (taken : ℕ) (a b c : Wires) (x : GoesOn taken a b) where
-  module _ (y : Goes b c) where
+  module _ (y : AddsIfNumbered b c) where
     joined : happened c ≡ (happened a ++ x.goes.added) ++ y.added
     joined = y.grown ∙ ap (λ l. l ++ y.added) x.goes.grown
 
@@ -68,7 +68,7 @@ module _ (taken : ℕ) (a b c : Wires) (x : GoesOn taken a b) where
         (subst (λ l. IsPlayed b.cabling.seats (loses_by l) (happened a ++ x.goes.added) y.added) x.goes.losing
         (subst (λ t. IsPlayed b.cabling.seats (loses b) t y.added) x.goes.grown (y.played n)))
 
-    pub goes_then : Goes a c
+    pub goes_then : AddsIfNumbered a c
     goes_then = record {
       added = x.goes.added ++ y.added;
       grown = joined ∙ append_assoc (happened a) x.goes.added y.added;
@@ -126,7 +126,7 @@ did_end most room a b c r x y = record {
 }
 
 -- what a call of the cables did
-pub did_play : {A : Type 0} (room : ℕ) (a b : Wires) (r : Result A Error) → Plays a b → OnOk r (PlaysOn 0 a b)
+pub did_play : {A : Type 0} (room : ℕ) (a b : Wires) (r : Result A Error) → AddsAllowed a b → OnOk r (PlaysOn 0 a b)
     → (r ≡ Err Full → HasNoRoom room b.cabling) → IfErr r (λ e. (e ≡ Full) ⊎ (e ≡ Memory)) → Did (GoesOn 0 a b) room a b r
 did_play room a b r plays on full refused = record {
   goes = goes_plays a b plays;
@@ -139,10 +139,10 @@ did_play room a b r plays on full refused = record {
 
 -- Steps that follow after addresses have settled follow from the state before.
 module _ (old mid new : Wires) (settled : mid ≡ record old { own = mid.own }) where
-  pub goes_settled : Goes mid new → Goes old new
-  goes_settled x = by (subst (λ w. Goes w new) settled x)
+  pub goes_settled : AddsIfNumbered mid new → AddsIfNumbered old new
+  goes_settled x = by (subst (λ w. AddsIfNumbered w new) settled x)
     where
-      by : Goes (record old { own = mid.own }) new → Goes old new
+      by : AddsIfNumbered (record old { own = mid.own }) new → AddsIfNumbered old new
       by y = record { added = y.added; grown = y.grown; seats = y.seats; limit = y.limit; losing = y.losing; played = y.played }
 
   pub goes_on_settled : (taken : ℕ) → GoesOn taken mid new → GoesOn taken old new

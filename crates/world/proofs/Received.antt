@@ -39,7 +39,7 @@ use Rattle.zip_zones.specs.declared.packet.NetInfo.{NetInfo}
 use Rattle.zip_zones.specs.declared.packet.Packet.{Packet as ZipPacket}
 use Rattle.zip_zones.specs.declared.packet.Packet.TheVariants.{Query, Reply, GetNetInfo, NetInfoReply, ExtendedReply}
 use Rattle.planned_stations.specs.Planning.{ports_of}
-use Rattle.world.specs.Going.{Goes}
+use Rattle.world.specs.Going.{AddsIfNumbered}
 use Rattle.world.specs.Received.{AreReceived, Hears, got}
 use Rattle.world.specs.Worlds.{IsReceived}
 
@@ -96,7 +96,7 @@ received_grown old new more gots grown h =
     subst (λ t. AreReceived t gots) (sym grown) (λ k ds at. all_more old more k ds (h k ds at))
 
 -- Datagrams that stations had received before these steps are still those of frames that they took.
-pub received_goes : (old new : Wires) (gots later : List (List Received)) → Goes old new → later ≡ gots
+pub received_goes : (old new : Wires) (gots later : List (List Received)) → AddsIfNumbered old new → later ≡ gots
     → AreReceived (happened old) gots → AreReceived (happened new) later
 received_goes old new gots later x same h =
     subst (AreReceived (happened new)) (sym same) (received_grown (happened old) (happened new) x.added gots x.grown h)

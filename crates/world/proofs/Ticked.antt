@@ -10,7 +10,7 @@ use Rattle.live_cables.specs.Playing.{AreDue, IsPlayed, are_lost, is_took}
 use Rattle.live_cables.specs.Steps.{loses_by}
 use Rattle.planned_stations.specs.Seating.{plan_seats}
 use Rattle.world.proofs.Going.{lost_same, played_same}
-use Rattle.world.specs.Going.{Ends, Goes}
+use Rattle.world.specs.Going.{Ends, AddsIfNumbered}
 use Rattle.world.specs.Losing.{loses_at}
 use Rattle.world.specs.Worlds.{Ticks, TicksOn}
 
@@ -25,7 +25,7 @@ ticks_none plan tick w = record {
 module _ (plan : Planned) (tick : ℕ) (old new : Wires) (losing : List Bool)
     (same : (cable : ℕ) → loses_by losing cable ≡ loses_at plan tick cable) (seats : old.cabling.seats ≡ plan_seats plan)
     (once : ArePutOnce (happened new)) where
-  by_goes : Goes (record old { losing = losing }) new → Ticks plan tick old new
+  by_goes : AddsIfNumbered (record old { losing = losing }) new → Ticks plan tick old new
   by_goes x = record {
     added = x.added;
     grown = x.grown;
@@ -52,8 +52,8 @@ module _ (plan : Planned) (tick : ℕ) (old new : Wires) (losing : List Bool)
 
   -- The cables after it was set which of them lose frames.
   module _ (mid : Wires) (set : mid ≡ record old { losing = losing }) where
-    pub ticks_goes : Goes mid new → Ticks plan tick old new
-    ticks_goes x = by_goes (subst (λ w. Goes w new) set x)
+    pub ticks_goes : AddsIfNumbered mid new → Ticks plan tick old new
+    ticks_goes x = by_goes (subst (λ w. AddsIfNumbered w new) set x)
 
     pub ticks_ends : Ends 10000 mid new → TicksOn plan tick old new
     ticks_ends x = by_ends (subst (λ w. Ends 10000 w new) set x)

@@ -11,7 +11,7 @@ use Rattle.cable_model.specs.Logs.{pending_on}
 -- Entries that `IsPlayed` allows were added, while the seats, the limit, and which cables lose frames stayed the same;
 -- addresses may have settled. That no two frames have the same stamp is a premise, so that steps can be combined before
 -- it is known.
-pub record Goes (old new : Wires) : Type 0 where
+pub record AddsIfNumbered (old new : Wires) : Type 0 where
   pub added : List Entry
   pub grown : happened new ≡ happened old ++ added
   pub seats : new.cabling.seats ≡ old.cabling.seats
@@ -22,7 +22,7 @@ pub record Goes (old new : Wires) : Type 0 where
 -- A step finished and added entries that `IsPlayed` allows: `taken` frames were taken, and all frames that were put on
 -- cables that lose frames are lost.
 pub record GoesOn (taken : ℕ) (old new : Wires) : Type 0 where
-  pub goes : Goes old new
+  pub goes : AddsIfNumbered old new
   pub takes : count is_took goes.added ≡ taken
   pub lost : ArePutOnce (happened new) → IsTrue (are_lost old.cabling.seats (loses old) (happened old) goes.added)
 
@@ -35,7 +35,7 @@ pub record Ends (most : ℕ) (old new : Wires) : Type 0 where
 
 -- What a step did, whether or not it finished: it is refused for lack of room for this many entries, or out of memory.
 pub record Did {A : Type 0} (Done : Type 0) (room : ℕ) (old new : Wires) (result : Result A Error) : Type 0 where
-  pub goes : Goes old new
+  pub goes : AddsIfNumbered old new
   pub done : OnOk result Done
   pub full : result ≡ Err Full → HasNoRoom room new.cabling
   pub refused : IfErr result (λ e. (e ≡ Full) ⊎ (e ≡ Memory))

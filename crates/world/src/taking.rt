@@ -8,7 +8,7 @@ ghost use Rattle.cable_model.specs.Transcript.{one};
 ghost use Rattle.live_cables.specs.Living.{IsLossRefused, happened};
 ghost use Rattle.live_cables.specs.Steps.{HasNoRoom, most_taken};
 ghost use Rattle.planned_stations.specs.Planning.{AreSeated, ports_of};
-ghost use Rattle.world.specs.Going.{Did, Ends, Goes, GoesOn};
+ghost use Rattle.world.specs.Going.{Did, Ends, AddsIfNumbered, GoesOn};
 ghost use Rattle.world.specs.Received.{AreReceived, got};
 ghost use Rattle.world.specs.Stopping.{AreTaking, MayTake};
 ghost use Rattle.world.specs.Taking.{AreTaken, IsTaken, IsTaker};
@@ -31,7 +31,7 @@ fn take<T: RouteTable>(
     requires there { station < length stations.old.items }
     requires seated { AreSeated wires.old.cabling.seats (map ports_of stations.old.items) }
     ensures ports { map ports_of stations.new.items ≡ map ports_of stations.old.items }
-    ensures goes { Goes wires.old wires.new }
+    ensures goes { AddsIfNumbered wires.old wires.new }
     ensures done { OnOk result (GoesOn 1 wires.old wires.new) }
     ensures taken { OnOk result (IsTaker stamp station stations.old.items stations.new.items
         wires.old wires.new) }
@@ -61,7 +61,7 @@ fn take_first<T: RouteTable>(
 ) -> Result<bool, Error>
     requires { AreSeated wires.old.cabling.seats (map ports_of stations.old.items) }
     ensures ports { map ports_of stations.new.items ≡ map ports_of stations.old.items }
-    ensures goes { Goes wires.old wires.new }
+    ensures goes { AddsIfNumbered wires.old wires.new }
     ensures took { IfOk result (λ was_one. GoesOn (one was_one) wires.old wires.new) }
     ensures taken { IfOk result (λ was_one. was_one ≡ true
         → IsTaken stations.old.items stations.new.items wires.old wires.new) }
