@@ -1,3 +1,4 @@
 pub mod Gone
 pub mod Named
 pub mod Asked
+pub mod Together

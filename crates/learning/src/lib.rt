@@ -5,6 +5,7 @@ mod asking;
 mod forgetting;
 mod laws;
 mod lists;
+mod names;
 mod query;
 mod routes;
 mod zones;

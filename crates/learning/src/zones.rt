@@ -7,6 +7,7 @@ ghost use Rattle.zip_zones.specs.Answers.{after_name, after_reply, is_taken, ran
 ghost use Rattle.zip_zones.specs.Zones.{heard};
 
 use crate::lists::learn_lists;
+use crate::names::{are_of, first_network, learn_together};
 use at_base::{Error, Range};
 use rtmp::RouteTable;
 use zip_zones::{Entries, Entry, Packet, ZoneTable};
@@ -88,7 +89,15 @@ fn learn_whole<T: RouteTable>(
     ensures stays { OnErr result (zones.new ≡ zones.old) }
     ensures refused { IsOkUnless result Error.Memory }
 {
-    // A name may be refused after others were learned, so they go to a copy.
+    let net = match first_network(entries.again()) {
+        Some(net) => net,
+        None => return Ok(()),
+    };
+    if are_of(entries.again(), net) {
+        return learn_together(zones, routes, total, net, entries);
+    }
+    // A network's name may be refused after those of others were learned, so they go to a copy. No
+    // packet that is read has several networks.
     let mut next = zones.copy()?;
     learn_names(&mut next, routes, total, entries)?;
     *zones = next;

@@ -11,3 +11,4 @@ pub mod Nothing
 pub mod Queries
 pub mod Having
 pub mod Indexed
+pub mod Added

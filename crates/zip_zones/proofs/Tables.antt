@@ -98,6 +98,17 @@ with_map known table new none room h =
 
 -- ---- a name that is added
 
+pub list_own : (range : Span) (total : ℕ) (table : List Known) → (list_of range total (known_for range table)).range ≡ range
+list_own range total table = by_list (known_for range table) refl
+  where
+    by_list : (o : Option Known) → known_for range table ≡ o → (list_of range total o).range ≡ range
+    by_list None e = refl
+    by_list (Some x) e =
+        elim (x.total == total) as (λ b. (if b then x else record { range = range; total = total; names = [] }).range ≡ range) [
+          | true ↦ one_range x.range range (found_is _ table x e)
+          | false ↦ refl
+        ]
+
 -- the list before a name is added is a valid list of the range
 pub list_known : (range : Span) (total : ℕ) (table : List Known) → is_range range.start range.end ≡ true → total ≤ max_zones
     → list_all is_known table ≡ true
@@ -117,7 +128,7 @@ list_known range total table valid few each = by_list (known_for range table) re
           | false ↦ (fresh_known range total valid few, refl)
         ]
 
-same_after : (name : List ℕ) (k : Known) → (with_zone name k).range ≡ k.range
+pub same_after : (name : List ℕ) (k : Known) → (with_zone name k).range ≡ k.range
 same_after name k = elim (is_complete k) as (λ b. (if b then k else record k { names = with_name k.names name }).range
     ≡ k.range) [ true ↦ refl | false ↦ refl ]
 

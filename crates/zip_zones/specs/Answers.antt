@@ -17,7 +17,7 @@ use Rattle.zip_zones.specs.declared.zone_function.ZoneFunction.{ZoneFunction}
 use Rattle.zip_zones.specs.declared.zone_function.ZoneFunction.TheVariants.{GetMyZone, GetZoneList, GetLocalZones}
 use Rattle.zip_zones.specs.Pages.{name_bytes, page}
 use Rattle.zip_zones.specs.Written.{extended_reply, net_info}
-use Rattle.zip_zones.specs.Zones.{Known, all_zones, heard, is_complete, is_full_for, known_of, overlaps_another, set_list, with_known}
+use Rattle.zip_zones.specs.Zones.{Known, all_zones, heard, is_complete, is_full_for, known_of, overlaps_another, set_list, with_known, with_zone}
 
 -- ---- queries
 
@@ -133,6 +133,14 @@ after_name rows total table e = by_range (range_heard rows e.net)
     by_range : Option Span → List Known
     by_range None = table
     by_range (Some range) = if is_taken range total table then heard range total e.name table else table
+
+-- the list after the names in these entries were received, in order
+abbrev pub with_names : List Entry → Known → Known
+with_names entries k = fold (λ k e. with_zone e.name k) k entries
+
+-- the table after the names in these entries were received, in order, as names of a range that has total zones
+abbrev pub heard_all : Span → ℕ → List Entry → List Known → List Known
+heard_all range total entries table = fold (λ t e. heard range total e.name t) table entries
 
 -- the names in the entries of a network
 abbrev pub names_for : ℕ → List Entry → List (List ℕ)

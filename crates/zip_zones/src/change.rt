@@ -128,7 +128,7 @@ pub(crate) fn put_last(
 }
 
 /// The index of the list of a range, if the list has `total` zones.
-fn place_to_go_on(
+pub(crate) fn place_to_go_on(
     lists: &[KnownZones],
     range: Range,
     total: u8,

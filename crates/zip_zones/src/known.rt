@@ -76,6 +76,21 @@ impl KnownZones {
         })
     }
 
+    /// A list of `total` zones without names, with room for all of them. Error: `Memory`.
+    pub(crate) fn empty(alloc: Global, range: Range, total: u8) -> Result<KnownZones, Error>
+        ensures ok { IfOk result
+            (λ known. known ≡ record { range = range; total = total; names = [] }) }
+        ensures err { IsOkUnless result Error.Memory }
+    {
+        let names = shared(alloc, Vec::with_capacity(alloc, total as usize)?)?;
+        Ok(KnownZones {
+            range,
+            total,
+            names,
+            alloc,
+        })
+    }
+
     /// The complete list with these names. Error: `Memory`.
     pub(crate) fn of(alloc: Global, range: Range, names: &[Name]) -> Result<KnownZones, Error>
         requires { length names.now ≤ max_zones }
@@ -160,6 +175,19 @@ impl KnownZones {
         names.push(*name)?;
         self.names = shared(self.alloc, names)?;
         Ok(())
+    }
+
+    /// Adds a name after the others, unless the list is complete or has it in any case. Error:
+    /// `Memory`; nothing changes then.
+    pub(crate) fn hear(&mut self, name: &Name) -> Result<(), Error>
+        ensures ok { OnOk result (self.new ≡ with_zone name.now self.old) }
+        ensures err { IsOkUnless result Error.Memory }
+        ensures kept { OnErr result (self.new ≡ self.old) }
+    {
+        if self.is_complete() || is_among(self.names(), name) {
+            return Ok(());
+        }
+        self.push(name)
     }
 
     /// The range of networks with these zones.

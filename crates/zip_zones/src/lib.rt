@@ -1,6 +1,7 @@
 //! Zone lists: a router's zones for each range of an internet, and ZIP packets.
 #![tactic(auto)]
 
+mod adding;
 mod answer;
 mod appending;
 mod change;

@@ -166,7 +166,7 @@ fn hits(
 /// The index of the list of a range; or, as an error within Ok, the index at which one is to be
 /// inserted. The table must have room for it, with this many zones. Errors: `BadRange` where another
 /// range overlaps it, `Full`.
-fn place_for(
+pub(crate) fn place_for(
     lists: &[KnownZones],
     range: Range,
     zones: usize,

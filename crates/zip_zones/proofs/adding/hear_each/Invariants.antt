@@ -1,0 +1,7 @@
+use Rattle.std.proofs.Common.{◌≡◌}
+use Rattle.zip_zones.specs.Answers.{with_names}
+use Rattle.zip_zones.proofs.adding.hear_each.Given as goal
+
+-- adding the names that are left gives the whole result
+abbrev pub invariant-loop-entry : goal.invariant-loop-entry
+invariant-loop-entry l = with_names l.entry-iterator l.known ≡ with_names l.fn.entries l.initial.known
