@@ -3,6 +3,7 @@
 ghost use Rattle.std.specs.Prelude.{◌≡◌, ◌≤◌, ◌<◌, ◌+◌, ◌*◌, ◌^◌, ◌↔◌, ◌⊎◌, List, length, vec_capacity, vec_len, [], IfErr, IsOkUnless, OnOk};
 ghost use Rattle.cable_model.specs.declared.seat.Seat.{Seat as SeatValue};
 ghost use Rattle.cable_model.specs.Books.{HasRoom, IsKept, IsSame};
+ghost use Rattle.cable_model.specs.Rooms.{take_lines};
 
 use crate::log::Log;
 use at_base::Error;
@@ -93,7 +94,7 @@ impl Rooms {
 pub fn make_room(log: &mut Log, limit: u32, room: Room, seats: usize) -> Result<(), Error>
     requires kept { (seats : List SeatValue) × IsKept seats limit log.old }
     requires fewer { room.bytes ≤ room.lines }
-    requires few { room.lines ≤ 1285 }
+    requires few { room.lines ≤ take_lines 2 }
     ensures room { OnOk result
         (HasRoom log.new room.lines room.bytes room.bytes (room.pairs * seats)) }
     ensures holdings { OnOk result
