@@ -1,17 +1,21 @@
 -- Names of one range that are added to a table one after the other.
-use Rattle.std.proofs.Common.{◌≡◌, ◌==◌, ℕ, ◌≤◌, Bool, true, false, not, ◌&&◌, ◌||◌, List, [], ◌∷◌, length, refl, sym, ap, subst, ◌∙◌, arith}
+use Rattle.std.proofs.Common.{◌≡◌, ◌==◌, ℕ, ◌≤◌, Bool, true, false, not, ◌&&◌, ◌||◌, List, [], ◌∷◌, ◌++◌, drop, length, append_assoc, refl, sym, ap, subst, ◌∙◌, arith}
 use Rattle.std.proofs.Common.{Some, None, Option, nat_lt, nat_le, if◌then◌else◌}
 use Rattle.std.proofs.Math.Bool.{and-false}
+use Rattle.std.proofs.Math.Seq.{drop-append_seam}
+use Rattle.std.specs.List.{list_any}
 use Rattle.std.proofs.lemmas.Bool.Decides.{nat_tests}
 use Rattle.std.proofs.lemmas.Bool.{eq-eqb, eqb-true, le-ltb, lt-ltb}
 use Rattle.at_base.specs.Range.{Span, is_range, overlaps, same_range}
 use Rattle.at_base.specs.Limits.{max_zones}
+use Rattle.at_base.specs.Text.{same_name}
 use Rattle.at_base.specs.Spans.{item_of, overlaps_another, with_item}
 use Rattle.at_base.proofs.Ranges.{not_same, one_range}
 use Rattle.at_base.proofs.Spans.{put_cases}
 use Rattle.zip_zones.specs.declared.entry.Entry.{Entry}
 use Rattle.zip_zones.specs.Answers.{heard_all, is_taken, with_names}
 use Rattle.zip_zones.specs.Zones.{Known, IsZoneMap, heard, is_complete, is_full_for, is_known, known_for, list_of, with_known, with_name, with_zone}
+use Rattle.zip_zones.specs.Indexing.{any_named}
 use Rattle.zip_zones.proofs.Tables.{list_known, list_own, same_after, with_map, zone_known}
 
 same_span : (r : Span) → same_range r r ≡ true
@@ -77,11 +81,11 @@ list_total range total (Some k) = by (k.total == total) refl
     by true t = eqb-true _ _ t
     by false t = refl
 
-each_known : (entries : List Entry) (k : Known) → is_known k ≡ true → is_known (with_names entries k) ≡ true
+pub each_known : (entries : List Entry) (k : Known) → is_known k ≡ true → is_known (with_names entries k) ≡ true
 each_known [] k h = h
 each_known (e ∷ entries) k h = each_known entries (with_zone e.name k) (zone_known e.name k h)
 
-each_own : (entries : List Entry) (k : Known) → (with_names entries k).range ≡ k.range
+pub each_own : (entries : List Entry) (k : Known) → (with_names entries k).range ≡ k.range
 each_own [] k = refl
 each_own (e ∷ entries) k = each_own entries (with_zone e.name k) ∙ same_after e.name k
 
@@ -148,3 +152,32 @@ taken_again range total name table taken =
     first_two true true c h = refl
     first_two true false c h = cc
     first_two false b c h = cc
+
+-- ---- a list that begins with the names that it had
+
+-- names that begin with others go on with what follows these
+pub goes_on : (kept more names : List (List ℕ)) → names ≡ kept ++ more → names ≡ kept ++ drop (length kept) names
+goes_on kept more names e = e ∙ ap (λ (l : List (List ℕ)). kept ++ l) (sym (ap (drop (length kept)) e ∙ drop-append_seam kept more))
+
+-- a name that is added is added at the end
+pub still_on : (kept : List (List ℕ)) (name : List ℕ) (k : Known) → k.names ≡ kept ++ drop (length kept) k.names
+    → (with_zone name k).names ≡ kept ++ drop (length kept) (with_zone name k).names
+still_on kept name k on = by (is_complete k) (list_any (same_name name) k.names)
+  where
+    by : (complete has : Bool) → (if complete then k else record k { names = if has then k.names else k.names ++ name ∷ [] }).names
+        ≡ kept ++ drop (length kept) (if complete then k else record k { names = if has then k.names else k.names ++ name ∷ [] }).names
+    by true has = on
+    by false true = on
+    by false false =
+        goes_on kept (drop (length kept) k.names ++ name ∷ []) (k.names ++ name ∷ [])
+        (ap (λ (l : List (List ℕ)). l ++ name ∷ []) on ∙ append_assoc kept (drop (length kept) k.names) (name ∷ []))
+
+pub each_on : (kept : List (List ℕ)) (entries : List Entry) (k : Known) → k.names ≡ kept ++ drop (length kept) k.names
+    → (with_names entries k).names ≡ kept ++ drop (length kept) (with_names entries k).names
+each_on kept [] k on = on
+each_on kept (e ∷ entries) k on = each_on kept entries (with_zone e.name k) (still_on kept e.name k on)
+
+-- numbers give no name of a list without names
+pub none_named : (zone : List ℕ) (numbers : List ℕ) → any_named zone [] numbers ≡ false
+none_named zone [] = refl
+none_named zone (n ∷ numbers) = none_named zone numbers

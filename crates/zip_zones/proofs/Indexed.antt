@@ -42,19 +42,23 @@ long_less n (a ∷ index) = by (a == n) (long_less n index)
     by true rest = omega arith
     by false rest = omega (arith, rest)
 
--- one number more at the end is one number more
-more_last : (more : List ℕ) (n : ℕ) (index : List ℕ) → with_numbers (more ++ n ∷ []) index ≡ with_number n (with_numbers more index)
-more_last [] n index = refl
-more_last (m ∷ more) n index = ap (with_number m) (more_last more n index) ∙ with_twice m n (with_numbers more index)
+-- a number is put before others or after them
+with_past : (n : ℕ) (more index : List ℕ) → with_number n (with_numbers more index) ≡ with_numbers more (with_number n index)
+with_past n [] index = refl
+with_past n (m ∷ more) index = with_twice n m (with_numbers more index) ∙ ap (with_number m) (with_past n more index)
 
--- the numbers of names, one more at the end
-pub numbers_last : (start nth : ℕ) (names : List (List ℕ)) (name : List ℕ)
-    → numbers_from start nth (names ++ name ∷ []) ≡ numbers_from start nth names ++ number_of (key_of name) start (nth + length names) ∷ []
-numbers_last start nth [] name =
-    subst (λ (m : ℕ). number_of (key_of name) start nth ∷ [] ≡ number_of (key_of name) start m ∷ []) (omega arith) refl
-numbers_last start nth (n ∷ names) name =
-    ap (λ (l : List ℕ). number_of (key_of n) start nth ∷ l) (numbers_last start (suc nth) names name
-    ∙ ap (λ (m : ℕ). numbers_from start (suc nth) names ++ number_of (key_of name) start m ∷ []) (omega arith))
+-- numbers at the end are numbers more
+more_after : (more last index : List ℕ) → with_numbers (more ++ last) index ≡ with_numbers last (with_numbers more index)
+more_after [] last index = refl
+more_after (m ∷ more) last index = ap (with_number m) (more_after more last index) ∙ with_past m last (with_numbers more index)
+
+-- the numbers of names, with more names at the end
+numbers_after : (start nth : ℕ) (names more : List (List ℕ))
+    → numbers_from start nth (names ++ more) ≡ numbers_from start nth names ++ numbers_from start (nth + length names) more
+numbers_after start nth [] more = ap (λ (m : ℕ). numbers_from start m more) (omega arith)
+numbers_after start nth (n ∷ names) more =
+    ap (λ (l : List ℕ). number_of (key_of n) start nth ∷ l) (numbers_after start (suc nth) names more
+    ∙ ap (λ (m : ℕ). numbers_from start (suc nth) names ++ numbers_from start m more) (omega arith))
 
 -- ---- lists that are put and taken out
 
@@ -121,6 +125,22 @@ none_out range (k ∷ table) none = by (same_range k.range range) none (none_out
     by true e rest = cc
     by false e rest = ap (λ (l : List Known). k ∷ l) (rest e)
 
+-- the index after names are added at the end of the list at a place
+pub lengthened_index : (range : Span) (table : List Known) (i : ℕ) (at : IsAt (λ k. k.range) range table i) (k : Known) (more : List (List ℕ))
+    → AreApart (λ k. k.range) 0 table → k.range ≡ range → k.names ≡ at.item.names ++ more
+    → index_of (with_known k table) ≡ with_numbers (numbers_from range.start (length at.item.names) more) (index_of table)
+lengthened_index range table i at k more h own longer =
+    let names = at.item.names in
+    let numbers : numbers_in k ≡ numbers_in at.item ++ numbers_from range.start (length names) more =
+    ap (λ (r : Span). numbers_from r.start 0 k.names) own ∙ ap (numbers_from range.start 0) longer
+    ∙ numbers_after range.start 0 names more
+    ∙ ap (λ (m : ℕ). numbers_from range.start 0 names ++ numbers_from range.start m more) (omega arith)
+    ∙ ap (λ (r : Span). numbers_from r.start 0 names ++ numbers_from range.start (length names) more) (sym at.own) in
+    put_index k table h ∙ ap (λ (r : Span). with_numbers (numbers_in k) (index_of (without r table))) own
+    ∙ ap (λ (l : List ℕ). with_numbers l (index_of (without range table))) numbers
+    ∙ more_after (numbers_in at.item) (numbers_from range.start (length names) more) (index_of (without range table))
+    ∙ ap (with_numbers (numbers_from range.start (length names) more)) (sym (had_index range table i at h))
+
 -- the index after a name is added at the end of the list at a place
 pub longer_index : (range : Span) (table : List Known) (i : ℕ) (at : IsAt (λ k. k.range) range table i) (name : List ℕ)
     → AreApart (λ k. k.range) 0 table
@@ -128,16 +148,7 @@ pub longer_index : (range : Span) (table : List Known) (i : ℕ) (at : IsAt (λ 
     ≡ with_number (number_of (key_of name) range.start (length at.item.names)) (index_of table)
 longer_index range table i at name h =
     let k = record at.item { names = at.item.names ++ name ∷ [] } in
-    let first : number_of (key_of name) at.item.range.start (0 + length at.item.names)
-    ≡ number_of (key_of name) range.start (length at.item.names) =
-    ap (λ (r : Span). number_of (key_of name) r.start (0 + length at.item.names)) at.own
-    ∙ ap (λ (m : ℕ). number_of (key_of name) range.start m) (omega arith) in
-    ap index_of (sym (at.put k at.own)) ∙ put_index k table h
-    ∙ ap (λ (r : Span). with_numbers (numbers_in k) (index_of (without r table))) at.own
-    ∙ ap (λ (l : List ℕ). with_numbers l (index_of (without range table))) (numbers_last at.item.range.start 0 at.item.names name)
-    ∙ more_last (numbers_in at.item) (number_of (key_of name) at.item.range.start (0 + length at.item.names)) (index_of (without range table))
-    ∙ ap (with_number (number_of (key_of name) at.item.range.start (0 + length at.item.names))) (sym (had_index range table i at h))
-    ∙ ap (λ (n : ℕ). with_number n (index_of table)) first
+    ap index_of (sym (at.put k at.own)) ∙ lengthened_index range table i at k (name ∷ []) h at.own refl
 
 -- the index after a list is added last
 pub last_index : (table : List Known) (k : Known) → index_of (table ++ k ∷ []) ≡ with_numbers (numbers_in k) (index_of table)
@@ -153,7 +164,7 @@ one_more start names name =
     let numbers = numbers_from start 0 names in
     let n = number_of (key_of name) start (0 + length names) in
     let at : 0 + length names ≡ length names = omega arith in
-    ap in_order (numbers_last start 0 names name) ∙ among numbers (n ∷ []) []
+    ap in_order (numbers_after start 0 names (name ∷ [])) ∙ among numbers (n ∷ []) []
     ∙ ap (λ (l : List ℕ). with_number n (in_order l)) (append-nil numbers)
     ∙ ap (λ (m : ℕ). with_number (number_of (key_of name) start m) (in_order numbers)) at
 

@@ -1,6 +1,6 @@
 //! Changes of the lists of a zone table, and of its index with them.
 
-ghost use Rattle.std.specs.Prelude.{◌≡◌, ◌+◌, ◌<◌, ◌≤◌, ◌++◌, ◌∷◌, [], length, Some};
+ghost use Rattle.std.specs.Prelude.{◌≡◌, ◌+◌, ◌<◌, ◌≤◌, ◌++◌, ◌∷◌, [], drop, length, Some};
 ghost use Rattle.std.specs.Prelude.{vec_capacity, vec_len, IfErr, IfNone, IfOk, IfSome};
 ghost use Rattle.std.specs.Prelude.{IsOkUnless, OnErr, OnOk};
 ghost use Rattle.at_base.specs.Limits.{max_zones};
@@ -124,6 +124,32 @@ pub(crate) fn put_last(
     index.reserve(known.names().len())?;
     put_names(index, known.range().start(), 0, known.names());
     lists.push(known).unwrap();
+    Ok(())
+}
+
+/// Puts a list at a place, instead of one that had its first `kept` names. Error: `Memory`; nothing
+/// changes then.
+pub(crate) fn lengthen(
+    lists: &mut Vec<KnownZones>,
+    index: &mut Vec<u64>,
+    place: usize,
+    kept: usize,
+    known: KnownZones,
+) -> Result<(), Error>
+    requires indexed { IsIndexed lists.old.items index.old.items }
+    requires at { (at : IsAt (λ k. k.range) known.range lists.old.items place)
+        × (kept ≡ length at.item.names) × (known.names ≡ at.item.names ++ drop kept known.names) }
+    requires few { length known.names ≤ max_zones }
+    ensures ok { OnOk result ((lists.new.items ≡ with_known known lists.old.items)
+        × (index.new.items ≡ index_of (with_known known lists.old.items))) }
+    ensures err { IsOkUnless result Error.Memory }
+    ensures kept { OnErr result ((lists.new.items ≡ lists.old.items)
+        × (index.new.items ≡ index.old.items)) }
+{
+    let (_, more) = known.names().split_at(kept);
+    index.reserve(more.len())?;
+    put_names(index, known.range().start(), kept as u8, more);
+    lists[place] = known;
     Ok(())
 }
 

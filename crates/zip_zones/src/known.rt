@@ -3,8 +3,10 @@
 ghost use Rattle.std.specs.Prelude.{◌≡◌, ◌≤◌, ◌++◌, ◌∷◌, [], length, IfOk, IsOkUnless};
 ghost use Rattle.std.specs.Prelude.{OnErr, OnOk};
 ghost use Rattle.std.specs.Arc.{arc_value};
+ghost use Rattle.std.specs.List.{list_any};
 ghost use Rattle.at_base.specs.Limits.{max_zones};
 ghost use Rattle.at_base.specs.Numbers.{AreRising};
+ghost use Rattle.at_base.specs.Text.{same_name};
 ghost use Rattle.zip_zones.specs.Indexing.{any_named, key_of, with_start};
 ghost use Rattle.zip_zones.specs.Zones as spec;
 ghost use Rattle.zip_zones.specs.Zones.{has_zone, list_of_least, set_list, with_zone};
@@ -49,6 +51,20 @@ fn shared(alloc: Global, names: Vec<Name>) -> Result<Arc<Vec<Name>, Global>, Err
         Ok(shared) => Ok(shared),
         Err(_) => Err(Error::Memory),
     }
+}
+
+/// Whether the zone is among the names of a list that starts at a network, ignoring case. The index
+/// must have their numbers, which are looked at only where comparing the names would cost more.
+pub(crate) fn has_among(index: &[u64], start: u16, names: &[Name], zone: &Name) -> bool
+    requires rising { AreRising 0 index.now }
+    requires indexed { any_named zone.now names.now
+        (with_start (key_of zone.now) start index.now) ≡ list_any (same_name zone.now) names.now }
+    ensures { result ≡ list_any (same_name zone.now) names.now }
+{
+    if names.len() <= FEW {
+        return is_among(names, zone);
+    }
+    has(index, start, names, zone)
 }
 
 impl KnownZones {
@@ -170,24 +186,12 @@ impl KnownZones {
         ensures err { IsOkUnless result Error.Memory }
         ensures kept { OnErr result (self.new ≡ self.old) }
     {
-        let mut names = Vec::with_capacity(self.alloc, self.names.as_ref().len() + 1)?;
+        // Others are likely to follow.
+        let mut names = Vec::with_capacity(self.alloc, self.total as usize)?;
         names.extend_from_slice(self.names.as_ref().as_slice())?;
         names.push(*name)?;
         self.names = shared(self.alloc, names)?;
         Ok(())
-    }
-
-    /// Adds a name after the others, unless the list is complete or has it in any case. Error:
-    /// `Memory`; nothing changes then.
-    pub(crate) fn hear(&mut self, name: &Name) -> Result<(), Error>
-        ensures ok { OnOk result (self.new ≡ with_zone name.now self.old) }
-        ensures err { IsOkUnless result Error.Memory }
-        ensures kept { OnErr result (self.new ≡ self.old) }
-    {
-        if self.is_complete() || is_among(self.names(), name) {
-            return Ok(());
-        }
-        self.push(name)
     }
 
     /// The range of networks with these zones.
@@ -218,8 +222,7 @@ impl KnownZones {
         self.names().len() == self.total as usize
     }
 
-    /// Whether the zone is among the names, ignoring case. The index must have their numbers, which
-    /// are looked at only where comparing the names would cost more.
+    /// Whether the zone is among the names, ignoring case. The index must have their numbers.
     pub(crate) fn has(&self, index: &[u64], zone: &Name) -> bool
         requires rising { AreRising 0 index.now }
         requires indexed { any_named zone.now self.now.names
@@ -227,9 +230,6 @@ impl KnownZones {
             ≡ has_zone zone.now self.now }
         ensures { result ≡ has_zone zone.now self.now }
     {
-        if self.names().len() <= FEW {
-            return is_among(self.names(), zone);
-        }
-        has(index, self.range.start(), self.names(), zone)
+        has_among(index, self.range.start(), self.names(), zone)
     }
 }
