@@ -1,5 +1,5 @@
 -- The image of stations that have settled: its routers, its nodes, and their seats.
-use Rattle.std.proofs.Common.{◌≡◌, ◌⊎◌, inl, inr, ℕ, zero, suc, ◌+◌, ◌-◌, ◌≤◌, List, [], ◌∷◌, drop, length, map}
+use Rattle.std.proofs.Common.{◌≡◌, ◌⊎◌, inl, inr, ℕ, zero, suc, ◌+◌, ◌-◌, ◌≤◌, List, [], ◌∷◌, ◌++◌, drop, length, map}
 use Rattle.std.proofs.Common.{Some, None, refl, sym, ap, ◌∙◌, subst, slice_get, arith}
 use Rattle.aarp.specs.Choosing.{Choice}
 use Rattle.aarp.specs.Mapping.{Mappings}
@@ -169,3 +169,48 @@ plan_seat plan s h =
       | inl e ↦ inl (router_seat 0 plan.routers h.0 s e)
       | inr e ↦ inr (node_seat (length plan.routers) plan.nodes e.0 s e.2)
     ]
+
+has_first : {X : Type 0} (xs ys : List X) (x : X) → Has xs x → Has (xs ++ ys) x
+has_first xs ys x h = (h.0, at xs h.0 h.1)
+  where
+    at : (xs : List _) (k : ℕ) → At xs k x → At (xs ++ ys) k x
+    at [] k e = cc
+    at (y ∷ xs) zero e = e
+    at (y ∷ xs) (suc k) e = at xs k e
+
+has_second : {X : Type 0} (xs ys : List X) (x : X) → Has ys x → Has (xs ++ ys) x
+has_second [] ys x h = h
+has_second (y ∷ xs) ys x h = let w = has_second xs ys x h in (suc w.0, w.1)
+
+port_there : (station q : ℕ) (ps : List PlannedPort) (k : ℕ) (p : PlannedPort) → At ps k p
+    → (z : Seat) × Has (port_seats station q ps) z × (z.station ≡ station) × (z.port ≡ q + k)
+port_there station q [] k p e = cc
+port_there station q (x ∷ ps) zero p e =
+    let none : q ≡ q + 0 = omega arith in
+    (record { cable = x.cable - 1; station = station; port = q; hw = x.hardware; group = None }, (zero, refl), refl, none)
+port_there station q (x ∷ ps) (suc k) p e =
+    let w = port_there station (q + 1) ps k p e in
+    let next : (q + 1) + k ≡ q + suc k = omega arith in
+    (w.0, (suc w.1.0, w.1.1), w.2, w.3 ∙ next)
+
+router_there : (first : ℕ) (rs : List PlannedRouter) (k : ℕ) (r : PlannedRouter) (q : ℕ) (p : PlannedPort) → At rs k r → At r.port q p
+    → (z : Seat) × Has (router_seats first rs) z × (z.station ≡ first + k) × (z.port ≡ q)
+router_there first [] k r q p er ep = cc
+router_there first (x ∷ rs) zero r q p er ep =
+    let is : x ≡ r = cc in
+    let w = port_there first 0 x.port q p (subst (λ (z : PlannedRouter). At z.port q p) (sym is) ep) in
+    let none : first ≡ first + 0 = omega arith in
+    let same : 0 + q ≡ q = omega arith in
+    (w.0, has_first (port_seats first 0 x.port) (router_seats (first + 1) rs) w.0 w.1, w.2 ∙ none, w.3 ∙ same)
+router_there first (x ∷ rs) (suc k) r q p er ep =
+    let w = router_there (first + 1) rs k r q p er ep in
+    let next : (first + 1) + k ≡ first + suc k = omega arith in
+    (w.0, has_second (port_seats first 0 x.port) (router_seats (first + 1) rs) w.0 w.1, w.2 ∙ next, w.3)
+
+-- each port of a planned router has its seat
+pub seat_of : (plan : Planned) (k : ℕ) (r : PlannedRouter) (q : ℕ) (p : PlannedPort) → At plan.routers k r → At r.port q p
+    → (z : Seat) × Has (plan_seats plan) z × (z.station ≡ k) × (z.port ≡ q)
+seat_of plan k r q p er ep =
+    let w = router_there 0 plan.routers k r q p er ep in
+    let none : 0 + k ≡ k = omega arith in
+    (w.0, has_first (router_seats 0 plan.routers) (node_seats (length plan.routers) plan.nodes) w.0 w.1, w.2 ∙ none, w.3)

@@ -19,9 +19,15 @@ pub mod Ground
 pub mod Likeness
 pub mod Idling
 pub mod Turning
+pub mod Rested
 pub mod Ticking
 pub mod Again
 pub mod Staying
+pub mod Numbering
+pub mod Numbered
+pub mod Counted
+pub mod Ranges
+pub mod Placed
 pub mod Between
 pub mod Promising
 pub mod Speaking
@@ -30,3 +36,5 @@ pub mod Ageing
 pub mod Brightening
 pub mod Refreshed
 pub mod Always
+pub mod Tabled
+pub mod Run
