@@ -8,7 +8,7 @@ use Rattle.internet_file.specs.Files.{Planned}
 use Rattle.internet_file.specs.declared.router.Router.{Router as PlannedRouter}
 use Rattle.lasting.proofs.Alike.{IsLike}
 use Rattle.lasting.proofs.Ground.{image_router, router_first}
-use Rattle.lasting.proofs.Idling.{AreHeldFor}
+use Rattle.lasting.proofs.Idling.{AreSparedFrom}
 use Rattle.lasting.proofs.Likeness.{node_was, router_was}
 use Rattle.lasting.proofs.Nodes.{still_quiet}
 use Rattle.lasting.proofs.Passed.{HasTickedTo}
@@ -87,7 +87,7 @@ module _ (old new : Worldly) (phase : ℕ) (rest : IsResting phase old) (others 
           still_quiet was.0 n was.2.0 (rest.standing.nodes k (NodeMember was.0) le was.1)
 
   -- the world is as settled as before, if nothing is under way
-  pub rests_again : new.plan ≡ old.plan → pending_on new.wires.cabling ≡ [] → AreHeldFor (IsNoNextRouter new.stations) new.wires.maps
+  pub rests_again : new.plan ≡ old.plan → pending_on new.wires.cabling ≡ [] → AreSparedFrom (IsNoNextRouter new.stations) 0 new.wires.maps
       → AreFresh new.stations → IsResting (phase_after phase) new
   rests_again same pending spared fresh =
       let s = stays old new phase rest others tick Lossless none same in

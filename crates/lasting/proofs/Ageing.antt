@@ -18,7 +18,7 @@ use Rattle.lasting.proofs.Passed.{HasGoodRows, ticks_alike}
 use Rattle.lasting.proofs.Routers.{one_settled, ticks}
 use Rattle.lasting.proofs.Speaking.{IsSaid, calm_below, gives_said, said_step}
 use Rattle.lasting.proofs.Telling.{IsToldOf}
-use Rattle.lasting.proofs.Idling.{AreHeldFor, all_aged, get_set, get_set_other, router_spared}
+use Rattle.lasting.proofs.Idling.{AreSparedFrom, all_aged, get_set, get_set_other, router_spared}
 use Rattle.lasting.proofs.Turning.{all_come, all_steps, one_passed, still_lossless}
 use Rattle.lasting.specs.Hears.{data_datagram}
 use Rattle.lasting.specs.Resting.{IsBelow}
@@ -139,8 +139,8 @@ module _ (i : Internet) (ok : Passes i) (settled : IsSettled i) (bounded : IsBou
   abbrev Good : Wires → Type 0
   Good w = (w.cabling.seats ≡ seats) × IsFineOn (IsToldOf i) (Unit {0}) w.cabling × (Unit {0} → IsLossless (IsToldOf i) (Unit {0}) w)
 
-  abbrev Spared : Wires → Type 0
-  Spared w = AreHeldFor (IsNoNextRouter stations) w.maps
+  abbrev Spared : ℕ → Wires → Type 0
+  Spared seat w = AreSparedFrom (IsNoNextRouter stations) seat w.maps
 
   pub record HasSpoken (number : ℕ) (now : List (Member Living LivingNode)) (w : Wires) : Type 0 where
     pub below : IsBelow (happened w)
@@ -148,7 +148,7 @@ module _ (i : Internet) (ok : Passes i) (settled : IsSettled i) (bounded : IsBou
 
   -- the steps of one station
   one_spoken : (number seat : ℕ) (m after ticked : Member Living LivingNode) (old mid new : Wires) → At stations number m → Good old
-      → IsBelow (happened old) → (number < length i.routers → Spared old) → (tick : HasTicked number seat m ticked old mid)
+      → IsBelow (happened old) → (number < length i.routers → Spared seat old) → (tick : HasTicked number seat m ticked old mid)
       → AreAged seat (ports_of ticked) ticked after mid new
       → IsFineStep (IsToldOf i) (Unit {0}) old.cabling new.cabling × ((b : Living) → after ≡ RouterMember b → HasSaid number b new)
   one_spoken number seat m after ticked old mid new em wires below idle tick ages =
@@ -183,8 +183,8 @@ module _ (i : Internet) (ok : Passes i) (settled : IsSettled i) (bounded : IsBou
           let g = ground number (RouterMember a) em in
           let alike = ticks_alike i ok seats number (RouterMember a) (RouterMember t) g tick.outputs (good number (RouterMember a) em) tick.ticks in
           let low = at_within i.routers number g.x g.x_at in
-          let still : Spared mid =
-          subst (AreHeldFor (IsNoNextRouter stations)) (sym (gives_same number tick.outputs _ mid alike.2 tick.gives)) (idle low) in
+          let still : Spared seat mid =
+          subst (AreSparedFrom (IsNoNextRouter stations) seat) (sym (gives_same number tick.outputs _ mid alike.2 tick.gives)) (idle low) in
           let w = ticks a t tick.outputs g.settled tick.ticks in
           let aged =
           all_aged (IsNoNextRouter stations) seat (ports_of (RouterMember t)) (RouterMember t) after mid new still
@@ -216,7 +216,7 @@ module _ (i : Internet) (ok : Passes i) (settled : IsSettled i) (bounded : IsBou
           router_is t b e = cc
 
   -- all stations
-  pub all_spoken : (number seat : ℕ) (now : List (Member Living LivingNode)) (old new : Wires) → Good old → Spared old → IsBelow (happened old)
+  pub all_spoken : (number seat : ℕ) (now : List (Member Living LivingNode)) (old new : Wires) → Good old → Spared 0 old → IsBelow (happened old)
       → HavePassed number seat stations now old new → HasSpoken number now new
   all_spoken zero seat now old new wires idle below (none, same, stays) =
       record { below = subst (λ (w : Wires). IsBelow (happened w)) (sym stays) below; said = λ k b lt e. absurd (omega (arith, lt)) }

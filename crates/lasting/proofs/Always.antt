@@ -37,7 +37,7 @@ one_on w v phase rest others lossless t before after =
       | inr other ↦ fresh_between w v phase rest here t.next.tick ⊥ (λ no. absurd no) other
     ] in
     let s = stays w v phase rest here t.next.tick ⊥ (λ no. absurd no) t.next.plan in (
-      rests_again w v phase rest here t.next.tick ⊥ (λ no. absurd no) t.next.plan t.pending t.spared fresh,
+      rests_again w v phase rest here t.next.tick ⊥ (λ no. absurd no) t.next.plan t.pending (λ seat k h le e over. t.spared seat k h e over) fresh,
       kept_same (frozen_as V1 w) (frozen_as V1 v) s.keeps,
     )
 

@@ -81,12 +81,12 @@ others_later old new t others index a e lt =
     let now = t.now in
     others index a (subst (λ (p : Planned). slice_get p.actions index ≡ Some a) t.plan e) (omega (arith, now, lt))
 
--- a tick that leaves nothing held leaves nothing held for a next router
+-- where nothing is held, nothing is given up
 pub clean : (old new : Worldly) → IsTickOn old new → IsCleanTick old new
 clean old new t = record {
   next = record { plan = t.plan; now = t.now; tick = t.tick };
   pending = t.still.pending;
-  spared = idle_spared new t.still;
+  spared = λ seat k h e over. idle_spared new t.still seat k h (omega arith) e over;
 }
 
 pub all_clean : (w : Worldly) (vs : List Worldly) → AreTicks w vs → AreCleanTicks w vs
@@ -121,7 +121,7 @@ resting w phase (v ∷ vs) rest others (t, ticks) few =
     let next : phase_after phase ≡ phase + 1 = mod-eq_of_lt (omega (arith, few)) in
     let here = others_at w v t.next others in
     let fresh = fresh_between w v phase rest here t.next.tick ⊥ (λ no. absurd no) (λ e. absurd (let is = sym next ∙ e in omega (arith, is))) in
-    let again = rests_again w v phase rest here t.next.tick ⊥ (λ no. absurd no) t.next.plan t.pending t.spared fresh in
+    let again = rests_again w v phase rest here t.next.tick ⊥ (λ no. absurd no) t.next.plan t.pending (λ seat k h le e over. t.spared seat k h e over) fresh in
     let s = stays w v phase rest here t.next.tick ⊥ (λ no. absurd no) t.next.plan in
     let on =
     resting v (phase + 1) vs (subst (λ n. IsResting n v) next again) (others_later w v t.next others) ticks (omega (arith, few)) in

@@ -1,9 +1,9 @@
--- While what is held is for no next router, mappings that pass a tick poison no row.
-use Rattle.std.proofs.Common.{◌≡◌, ◌≢◌, ◌⊎◌, inl, inr, ℕ, zero, suc, ◌+◌, ◌==◌, Bool, true, false, not, cond, List, [], ◌∷◌, map, filter, if◌then◌else◌}
+-- Where what a tick gives up is for no next router, mappings that pass it poison no row.
+use Rattle.std.proofs.Common.{◌≡◌, ◌≢◌, ◌⊎◌, inl, inr, ℕ, zero, suc, ◌+◌, ◌≤◌, ◌==◌, arith, Bool, true, false, not, cond, List, [], ◌∷◌, map, filter, if◌then◌else◌}
 use Rattle.std.proofs.Common.{Option, Some, None, refl, sym, ap, ◌∙◌, subst, slice_get}
 use Rattle.std.specs.Prelude.{fold, slice_set}
 use Rattle.std.specs.List.{AllByRecursion as Each}
-use Rattle.std.proofs.lemmas.Bool.{cases_eq}
+use Rattle.std.proofs.lemmas.Bool.{cases_eq, not-true}
 use Rattle.aarp.specs.Mapping.{Mappings, asked_once_more, each_once, given_up as given_up_of, is_asked_again, waited}
 use Rattle.aarp.specs.declared.held.Held.{Held}
 use Rattle.at_base.specs.Address.{same_address}
@@ -38,11 +38,12 @@ get_set_other (x ∷ xs) zero (suc l) y other = refl
 get_set_other (x ∷ xs) (suc k) zero y other = refl
 get_set_other (x ∷ xs) (suc k) (suc l) y other = get_set_other xs k l y (λ e. other (ap suc e))
 
--- ---- What is held is for no next router
+-- ---- What is given up is for no next router
 
--- each datagram that is held is for an address with this property
-abbrev pub AreHeldFor : (Addr → Type 0) → List Mappings → Type 0
-AreHeldFor P maps = (seat k : ℕ) (h : Held) → At (held_at maps seat) k h → P h.next
+-- each datagram that a tick gives up at this seat or a later one is for an address with this property
+abbrev pub AreSparedFrom : (Addr → Type 0) → ℕ → List Mappings → Type 0
+AreSparedFrom P first maps =
+    (seat k : ℕ) (h : Held) → first ≤ seat → At (held_at maps seat) k h → is_asked_again h ≡ false → P h.next
 
 each_of : {X : Type 0} (P : X → Type 0) (xs : List X) → ((k : ℕ) (x : X) → At xs k x → P x) → Each P xs
 each_of P [] f = tt
@@ -61,40 +62,25 @@ once_each P [] h = tt
 once_each P (a ∷ rest) h = (h.0, each_kept P (λ b. not (same_address a b)) (each_once rest) (once_each P rest h.1))
 
 -- so are the addresses that are given up
-given_for : (P : Addr → Type 0) (held : List Held) → ((k : ℕ) (h : Held) → At held k h → P h.next) → Each P (given_up_of held)
+given_for : (P : Addr → Type 0) (held : List Held) → ((k : ℕ) (h : Held) → At held k h → is_asked_again h ≡ false → P h.next)
+    → Each P (given_up_of held)
 given_for P held f =
-    once_each P (map (λ (h : Held). h.next) (filter (λ h. not (is_asked_again h)) held))
-    (each_map P (λ (h : Held). h.next) (filter (λ h. not (is_asked_again h)) held)
-    (each_kept (λ (h : Held). P h.next) (λ h. not (is_asked_again h)) held (each_of (λ (h : Held). P h.next) held f)))
+    let over = filter (λ h. not (is_asked_again h)) held in
+    once_each P (map (λ (h : Held). h.next) over)
+    (each_map P (λ (h : Held). h.next) over
+    (each_of (λ (h : Held). P h.next) over (λ k h e.
+    let w = filter_at (λ h. not (is_asked_again h)) held k h e in
+    f w.0 h w.1 (not-true (is_asked_again h) w.2))))
 
-pub held_tick : (P : Addr → Type 0) (maps : List Mappings) (seat : ℕ) → AreHeldFor P maps → AreHeldFor P (with_tick maps seat)
-held_tick P maps seat held = by (slice_get maps seat) refl
+-- the tick of a seat leaves the others as they are
+other_held : (maps : List Mappings) (seat k : ℕ) → (k ≡ seat → ⊥) → held_at (with_tick maps seat) k ≡ held_at maps k
+other_held maps seat k other = by (slice_get maps seat) refl
   where
-    by : (o : Option Mappings) → slice_get maps seat ≡ o → AreHeldFor P (with_tick maps seat)
-    by None e = rw e held
-    by (Some m) e = subst (AreHeldFor P) (sym after) (λ k j x at. on k j x (cases_eq k seat) at)
-      where
-        now : List Mappings
-        now = slice_set maps seat (record m { held = waited m.held })
-
-        after : with_tick maps seat ≡ now
-        after = rw e refl
-
-        before : held_at maps seat ≡ m.held
-        before = rw e refl
-
-        on : (k j : ℕ) (x : Held) → (k ≡ seat) ⊎ (k ≢ seat) → At (held_at now k) j x → P x.next
-        on k j x (inl same) at =
-            let there = get_set maps seat (record m { held = waited m.held }) m e in
-            let mine : held_at now seat ≡ waited m.held = rw there refl in
-            let w = at_map asked_once_more (filter is_asked_again m.held) j x
-            (subst (λ l. At l j x) mine (subst (λ n. At (held_at now n) j x) same at)) in
-            let v = filter_at is_asked_again m.held j w.0 w.1 in
-            subst P (sym (ap (λ (h : Held). h.next) w.2)) (held seat v.0 w.0 (subst (λ l. At l v.0 w.0) (sym before) v.1))
-        on k j x (inr other) at =
-            let stays = get_set_other maps seat k (record m { held = waited m.held }) (λ s. absurd (other s)) in
-            let mine : held_at now k ≡ held_at maps k = rw stays refl in
-            held k j x (subst (λ l. At l j x) mine at)
+    by : (o : Option Mappings) → slice_get maps seat ≡ o → held_at (with_tick maps seat) k ≡ held_at maps k
+    by None e = rw e refl
+    by (Some m) e =
+        let stays = get_set_other maps seat k (record m { held = waited m.held }) other in
+        rw (e, stays) refl
 
 -- a station that no such address changes
 none_given : (P : Addr → Type 0) (m : Member Living LivingNode) (addrs : List Addr) → ((a : Addr) → P a → given_up m a ≡ m) → Each P addrs
@@ -102,22 +88,24 @@ none_given : (P : Addr → Type 0) (m : Member Living LivingNode) (addrs : List 
 none_given P m [] same h = refl
 none_given P m (a ∷ addrs) same h = ap (λ (z : Member Living LivingNode). fold given_up z addrs) (same a h.0) ∙ none_given P m addrs same h.1
 
-aged_same : (P : Addr → Type 0) (seat : ℕ) (m now : Member Living LivingNode) (old new : Wires) → AreHeldFor P old.maps
-    → ((a : Addr) → P a → given_up m a ≡ m) → IsAged seat m now old new → (now ≡ m) × AreHeldFor P new.maps
-aged_same P seat m now old new held same h = (
-  h.told ∙ none_given P m (given_up_of (held_at old.maps seat)) same (given_for P (held_at old.maps seat) (held seat)),
-  subst (AreHeldFor P) (sym h.passes.5) (held_tick P old.maps seat held),
+aged_same : (P : Addr → Type 0) (seat : ℕ) (m now : Member Living LivingNode) (old new : Wires) → AreSparedFrom P seat old.maps
+    → ((a : Addr) → P a → given_up m a ≡ m) → IsAged seat m now old new → (now ≡ m) × AreSparedFrom P (seat + 1) new.maps
+aged_same P seat m now old new spared same h = (
+  h.told ∙ none_given P m (given_up_of (held_at old.maps seat)) same (given_for P (held_at old.maps seat) (λ k x. spared seat k x (omega arith))),
+  subst (AreSparedFrom P (seat + 1)) (sym h.passes.5) (λ s k x le at.
+  spared s k x (omega (arith, le)) (subst (λ l. At l k x) (other_held old.maps seat s (λ e. absurd (omega (arith, le, e)))) at)),
 )
 
-pub all_aged : (P : Addr → Type 0) (seat ports : ℕ) (m now : Member Living LivingNode) (old new : Wires) → AreHeldFor P old.maps
-    → ((a : Addr) → P a → given_up m a ≡ m) → AreAged seat ports m now old new → (now ≡ m) × AreHeldFor P new.maps
-all_aged P seat zero m now old new held same h = (h.0, subst (λ (w : Wires). AreHeldFor P w.maps) (sym h.1) held)
-all_aged P seat (suc ports) m now old new held same (before, mid, first, last) =
-    let w = all_aged P seat ports m before old mid held same first in
+pub all_aged : (P : Addr → Type 0) (seat ports : ℕ) (m now : Member Living LivingNode) (old new : Wires) → AreSparedFrom P seat old.maps
+    → ((a : Addr) → P a → given_up m a ≡ m) → AreAged seat ports m now old new → (now ≡ m) × AreSparedFrom P (seat + ports) new.maps
+all_aged P seat zero m now old new spared same h =
+    (h.0, λ s k x le. subst (λ (w : Wires). AreSparedFrom P seat w.maps) (sym h.1) spared s k x (omega (arith, le)))
+all_aged P seat (suc ports) m now old new spared same (before, mid, first, last) =
+    let w = all_aged P seat ports m before old mid spared same first in
     let still : (a : Addr) → P a → given_up before a ≡ before =
     λ a p. ap (λ (z : Member Living LivingNode). given_up z a) w.0 ∙ (same a p ∙ sym w.0) in
     let v = aged_same P (seat + ports) before now mid new w.1 still last in
-    (v.0 ∙ w.0, v.1)
+    (v.0 ∙ w.0, λ s k x le. v.1 s k x (omega (arith, le)))
 
 -- ---- Rows that lead to no such address
 

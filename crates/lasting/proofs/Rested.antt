@@ -4,7 +4,7 @@ use Rattle.audit.specs.Rules.{Passes}
 use Rattle.cable_model.specs.Holdings.{still_held}
 use Rattle.cable_model.specs.Logs.{pending_on}
 use Rattle.cable_model.specs.Transcript.{Holding}
-use Rattle.lasting.proofs.Idling.{AreHeldFor}
+use Rattle.lasting.proofs.Idling.{AreSparedFrom}
 use Rattle.lasting.specs.Plain.{IsPlain}
 use Rattle.lasting.specs.Resting.{IsAtRest, IsStill}
 use Rattle.lasting.specs.Settled.{IsNoNextRouter}
@@ -18,21 +18,21 @@ use Rattle.table_image.specs.declared.version.Version.TheVariants.{V1}
 use Rattle.world.specs.Frozen.{frozen_as}
 use Rattle.world.specs.Worlds.{Worldly}
 
--- No frame is under way, what is held is plain and for no next router, the stations stand in this phase, and the image passes
+-- No frame is under way, what is held is plain, what is given up next is for no next router, the stations stand in this phase, and the image passes
 -- and is settled.
 pub record IsResting (phase : ℕ) (w : Worldly) : Type 0 where
   pub seats : w.wires.cabling.seats ≡ plan_seats w.plan
   pub pending : pending_on w.wires.cabling ≡ []
   pub plain : (d : Holding) → Has (still_held (happened w.wires)) d → IsPlain d.bytes
-  pub spared : AreHeldFor (IsNoNextRouter w.stations) w.wires.maps
+  pub spared : AreSparedFrom (IsNoNextRouter w.stations) 0 w.wires.maps
   pub standing : AreStanding w.plan phase w.stations
   pub passes : Passes (frozen_as V1 w)
   pub settled : IsSettled (frozen_as V1 w)
   pub bounded : IsBounded (frozen_as V1 w)
 
--- where nothing is held, what is held is so
-pub idle_spared : (w : Worldly) → IsStill w → AreHeldFor (IsNoNextRouter w.stations) w.wires.maps
-idle_spared w still seat k h e = let f = subst (λ l. slice_get l k ≡ Some h) (still.idle seat) e in cc
+-- where nothing is held, nothing is given up
+pub idle_spared : (w : Worldly) → IsStill w → AreSparedFrom (IsNoNextRouter w.stations) 0 w.wires.maps
+idle_spared w still seat k h le e over = let f = subst (λ l. slice_get l k ≡ Some h) (still.idle seat) e in cc
 
 pub at_rest : (phase : ℕ) (w : Worldly) → IsAtRest phase w → IsResting phase w
 at_rest phase w rest = record {

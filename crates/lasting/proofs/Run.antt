@@ -103,7 +103,7 @@ module _ (w : Worldly) (come : HasCome w) (s : IsSettledWorld w) where
     seats = come.seats;
     pending = s.pending;
     plain = λ d h. s.plain h.0 d h.1;
-    spared = s.spared;
+    spared = λ seat k h le e over. s.spared seat k h e over;
     standing = standing;
     passes = s.passes;
     settled = s.settled;
@@ -115,7 +115,7 @@ pub settles : (phase : ℕ) (w : Worldly) → IsResting phase w → IsSettledWor
 settles phase w h = record {
   pending = h.pending;
   plain = λ k d e. h.plain d (k, e);
-  spared = h.spared;
+  spared = λ seat k x e over. h.spared seat k x (omega arith) e over;
   stations = λ k m em.
       elim (cases_lt k (length w.plan.routers)) [
         | inl lt ↦ let r = at_below w.plan.routers k lt in of_router r.0 m (h.standing.routers k r.0 m r.1 em)

@@ -28,7 +28,7 @@ use Rattle.internet_file.specs.declared.action.Do.{Do}
 use Rattle.internet_file.specs.declared.action.Do.TheVariants.{Send, Lookup}
 use Rattle.lasting.proofs.Alike.{AreGround, IsLike, IsStationAt, hears_alike, node_like, router_like, seat_hears}
 use Rattle.lasting.proofs.Given.{IsFineOn, IsFineStep, IsLossless, MayPut, fine_taken, fine_then, gives_same, gives_step, passes_step, step_same, step_then, takes_step}
-use Rattle.lasting.proofs.Idling.{AreHeldFor, all_aged, get_set, get_set_other, node_aged, router_spared}
+use Rattle.lasting.proofs.Idling.{AreSparedFrom, all_aged, get_set, get_set_other, node_aged, router_spared}
 use Rattle.lasting.proofs.Passed.{AreToAll, HasGoodRows, HasTickedTo, plain_all, ticked_then, ticks_alike}
 use Rattle.lasting.proofs.Plainly.{made_plain, two}
 use Rattle.lasting.proofs.Telling.{IsToldOf}
@@ -61,9 +61,9 @@ use Rattle.world.specs.Taking.{AreTaken, IsTaken}
 
 module _ (i : Internet) (ok : Passes i) (settled : IsSettled i) (bounded : IsBounded i) (seats : List Seat)
     (stations : List (Member Living LivingNode)) (ground : AreGround i seats stations) (Lossless : Type 0) where
-  -- what is held is for no next router of these stations
-  abbrev pub AreSpared : Wires → Type 0
-  AreSpared w = AreHeldFor (IsNoNextRouter stations) w.maps
+  -- what the seats from this one on give up is for no next router of these stations
+  abbrev pub AreSpared : ℕ → Wires → Type 0
+  AreSpared seat w = AreSparedFrom (IsNoNextRouter stations) seat w.maps
 
   abbrev IsGoodWires : Wires → Type 0
   IsGoodWires w = (w.cabling.seats ≡ seats) × IsFineOn (IsToldOf i) Lossless w.cabling × (Lossless → IsLossless (IsToldOf i) Lossless w)
@@ -111,12 +111,12 @@ module _ (i : Internet) (ok : Passes i) (settled : IsSettled i) (bounded : IsBou
   -- ---- All stations pass a tick
 
   module _ (good : (k : ℕ) (m : Member Living LivingNode) → At stations k m → HasGoodRows m) where
-    -- The first stations have passed a tick, and the others are as they were; what is held is for no next router as
-    -- long as only routers passed.
-    pub record HasCome (number : ℕ) (now : List (Member Living LivingNode)) (w : Wires) : Type 0 where
+    -- The first stations have passed a tick, and the others are as they were; what their seats give up is for no next
+    -- router as long as only routers passed.
+    pub record HasCome (number seat : ℕ) (now : List (Member Living LivingNode)) (w : Wires) : Type 0 where
       pub through : IsThrough now w
       pub later : (k : ℕ) → number ≤ k → slice_get now k ≡ slice_get stations k
-      pub idle : number ≤ length i.routers → AreSpared w
+      pub idle : number ≤ length i.routers → AreSpared seat w
       pub ticked : (k : ℕ) (a b : Member Living LivingNode) → k < number → At stations k a → At now k b → HasTickedTo a b
 
     -- the mappings of a station's seats pass a tick
@@ -133,8 +133,8 @@ module _ (i : Internet) (ok : Passes i) (settled : IsSettled i) (bounded : IsBou
 
     -- a station passes a tick: the cables are as good as before, and it is like before
     pub one_passed : (number seat : ℕ) (m after : Member Living LivingNode) (old new : Wires) → At stations number m → IsGoodWires old
-        → (number < length i.routers → AreSpared old) → HasPassed number seat m after old new
-        → IsGoodWires new × IsLike i number m after × (number < length i.routers → AreSpared new) × HasTickedTo m after
+        → (number < length i.routers → AreSpared seat old) → HasPassed number seat m after old new
+        → IsGoodWires new × IsLike i number m after × (number < length i.routers → AreSpared (seat + ports_of after) new) × HasTickedTo m after
     one_passed number seat m after old new em wires idle (ticked, mid, tick, ages) =
         let t = ticks_alike i ok seats number m ticked (ground number m em) tick.outputs (good number m em) tick.ticks in
         let before : Wires = record old { own = settled_own ticked seat (ports_of ticked) old.own } in
@@ -148,16 +148,16 @@ module _ (i : Internet) (ok : Passes i) (settled : IsSettled i) (bounded : IsBou
       where
         finish : (m ticked : Member Living LivingNode) → At stations number m → IsStationAt i seats number m → IsLike i number m ticked
             → AreToAll m tick.outputs → EitherTicks RouterTicks NodeTicks m tick.outputs ticked → AreAged seat (ports_of ticked) ticked after mid new
-            → (after ≡ ticked) × (number < length i.routers → AreSpared new)
+            → (after ≡ ticked) × (number < length i.routers → AreSpared (seat + ports_of after) new)
         finish (RouterMember a) (RouterMember b) em g like all h ages =
             let low = at_within i.routers number g.x g.x_at in
-            let still : AreSpared mid =
-            subst (AreHeldFor (IsNoNextRouter stations)) (sym (gives_same number tick.outputs _ mid all tick.gives)) (idle low) in
+            let still : AreSpared seat mid =
+            subst (AreSparedFrom (IsNoNextRouter stations) seat) (sym (gives_same number tick.outputs _ mid all tick.gives)) (idle low) in
             let routes = (ticks a b tick.outputs g.settled h).routes in
             let w =
             all_aged (IsNoNextRouter stations) seat (ports_of (RouterMember b)) (RouterMember b) after mid new still
             (λ x none. router_spared stations number a b x em routes none) ages in
-            (w.0, λ lt. w.1)
+            (w.0, λ lt. subst (λ (z : Member Living LivingNode). AreSpared (seat + ports_of z) new) (sym w.0) w.1)
         finish (NodeMember a) (NodeMember b) em g like all h ages =
             let number = g.number in
             (node_aged seat 1 b after mid new ages, λ lt. absurd (omega (arith, lt, number)))
@@ -169,8 +169,8 @@ module _ (i : Internet) (ok : Passes i) (settled : IsSettled i) (bounded : IsBou
     self_like k (NodeMember a) g =
         node_like i seats k a a g (record { port = refl; zone = refl; names = refl; asked = refl; answered = refl }) g.served
 
-    pub all_come : (number seat : ℕ) (now : List (Member Living LivingNode)) (old new : Wires) → IsGoodWires old → AreSpared old
-        → HavePassed number seat stations now old new → HasCome number now new
+    pub all_come : (number seat : ℕ) (now : List (Member Living LivingNode)) (old new : Wires) → IsGoodWires old → AreSpared 0 old
+        → HavePassed number seat stations now old new → HasCome number seat now new
     all_come zero seat now old new wires idle (first, same, stays) =
         record {
           through =
@@ -182,7 +182,7 @@ module _ (i : Internet) (ok : Passes i) (settled : IsSettled i) (bounded : IsBou
                     subst (IsLike i k a) is (self_like k a (ground k a ea));
               };
           later = λ k le. ap (λ l. slice_get l k) same;
-          idle = λ le. subst AreSpared (sym stays) idle;
+          idle = λ le. subst (AreSpared seat) (sym stays) (subst (λ n. AreSpared n old) (sym first) idle);
           ticked = λ k a b lt ea eb. absurd (omega (arith, lt));
         }
     all_come (suc number) next now old new wires idle (seat, before, mid, passes, m, after, em, passed, set, at) =
@@ -202,7 +202,7 @@ module _ (i : Internet) (ok : Passes i) (settled : IsSettled i) (bounded : IsBou
           later = λ k le.
               ap (λ l. slice_get l k) set
               ∙ (get_set_other before number k after (λ s. absurd (omega (arith, s, le))) ∙ h.later k (omega (arith, le)));
-          idle = λ le. o.2 (omega (arith, le));
+          idle = λ le. subst (λ n. AreSpared n new) (sym at) (o.2 (omega (arith, le)));
           ticked = λ k a b lt ea eb.
               elim (cases_eq k number) [
                 | inl here ↦
@@ -217,7 +217,7 @@ module _ (i : Internet) (ok : Passes i) (settled : IsSettled i) (bounded : IsBou
         }
 
     -- all stations pass a tick
-    pub all_passed : (number seat : ℕ) (now : List (Member Living LivingNode)) (old new : Wires) → IsGoodWires old → AreSpared old
+    pub all_passed : (number seat : ℕ) (now : List (Member Living LivingNode)) (old new : Wires) → IsGoodWires old → AreSpared 0 old
         → HavePassed number seat stations now old new → length stations ≤ number → IsThrough now new × AreTicked now
     all_passed number seat now old new wires idle h enough =
         let w = all_come number seat now old new wires idle h in

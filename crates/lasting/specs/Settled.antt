@@ -1,5 +1,6 @@
 -- What can be seen of a world that has settled.
 use Rattle.std.specs.Prelude.{◌≡◌, ℕ, false, List, [], ◌∷◌, Some, slice_get}
+use Rattle.aarp.specs.Mapping.{is_asked_again}
 use Rattle.aarp.specs.declared.held.Held.{Held}
 use Rattle.at_base.specs.Address.{same_address}
 use Rattle.at_base.specs.declared.address.Addr.{Addr}
@@ -37,27 +38,30 @@ IsNoNextRouter stations a =
     (k : ℕ) (l : Living) (n : ℕ) (row : Row) → slice_get stations k ≡ Some (member.Router l) → slice_get l.router.routes n ≡ Some row
     → is_direct row ≡ false → same_address row.next a ≡ false
 
--- no datagram waits for the hardware address of a router to which a row leads
-abbrev pub KeepsNoRouterWaiting : Worldly → Type 0
-KeepsNoRouterWaiting w =
-    (seat k : ℕ) (h : Held) → slice_get (held_at w.wires.maps seat) k ≡ Some h → IsNoNextRouter w.stations h.next
+-- No datagram that the next tick gives up, since its address was asked for often enough, is for a router to which a row leads:
+-- no row is poisoned.
+abbrev pub GivesUpNoRouter : Worldly → Type 0
+GivesUpNoRouter w =
+    (seat k : ℕ) (h : Held) → slice_get (held_at w.wires.maps seat) k ≡ Some h → is_asked_again h ≡ false
+    → IsNoNextRouter w.stations h.next
 
--- No frame is under way, no datagram of type 1 or 6 is held, and none is held for a router to which a row leads; the stations
--- have settled; and the image, of version 1, is one, passes the audit and is settled.
+-- No frame is under way; no datagram of type 1 or 6 is held, and the next tick gives up none for a router to which a row leads;
+-- the stations have settled; and the image, of version 1, is one, passes the audit and is settled.
 pub record IsSettledWorld (w : Worldly) : Type 0 where
   pub pending : pending_on w.wires.cabling ≡ []
   pub plain : (k : ℕ) (h : Holding) → slice_get (still_held (happened w.wires)) k ≡ Some h → IsPlain h.bytes
-  pub spared : KeepsNoRouterWaiting w
+  pub spared : GivesUpNoRouter w
   pub stations : (k : ℕ) (m : Member Living LivingNode) → slice_get w.stations k ≡ Some m → HasSettled m
   pub passes : Passes (frozen_as V1 w)
   pub settled : IsSettled (frozen_as V1 w)
   pub bounded : IsBounded (frozen_as V1 w)
 
--- The world passed a tick, which left no frame under way, and no datagram held for a router to which a row leads.
+-- The world passed a tick, which left no frame under way, and after which the next one gives up no datagram for a router to
+-- which a row leads.
 pub record IsCleanTick (old new : Worldly) : Type 0 where
   pub next : IsNextTick old new
   pub pending : pending_on new.wires.cabling ≡ []
-  pub spared : KeepsNoRouterWaiting new
+  pub spared : GivesUpNoRouter new
 
 -- each of these worlds is the one before it after such a tick
 abbrev pub AreCleanTicks : Worldly → List Worldly → Type 0
