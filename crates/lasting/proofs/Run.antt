@@ -1,6 +1,9 @@
 -- Worlds that have run from their beginning: what all of them have; and if they have settled, they stay so.
-use Rattle.std.proofs.Common.{◌≡◌, inl, inr, ℕ, List, [], ◌∷◌, refl, sym, ap, ◌∙◌, subst, length, arith}
+use Rattle.std.proofs.Common.{◌+◌, ◌++◌, ◌∷◌, Result, Ok, Err}
+use Rattle.std.proofs.Common.{◌≡◌, inl, inr, ℕ, List, [], refl, sym, ap, ◌∙◌, subst, length, arith}
+use Rattle.std.specs.Prelude.{OnOk}
 use Rattle.std.proofs.lemmas.Bool.{cases_lt}
+use Rattle.at_base.specs.declared.error.Error.{Error}
 use Rattle.audit.proofs.WalkLists.{At, at_below}
 use Rattle.cable_model.specs.Transcript.{ArePutOnce}
 use Rattle.internet_file.specs.Files.{Planned}
@@ -24,7 +27,26 @@ use Rattle.station.specs.declared.member.Member.{Member}
 use Rattle.station.specs.declared.member.Member.TheVariants.{Router as RouterMember, Node as NodeMember}
 use Rattle.table_image.specs.declared.version.Version.TheVariants.{V1}
 use Rattle.world.specs.Frozen.{frozen_as}
+use Rattle.world.specs.Ticking.{IsTick}
 use Rattle.world.specs.Worlds.{Worldly}
+
+-- ---- One tick more
+
+one_more : (w v : Worldly) (us : List Worldly) → AreNextTicks w us → IsNextTick (last_of w us) v
+    → AreNextTicks w (us ++ v ∷ []) × (v ≡ last_of w (us ++ v ∷ []))
+one_more w v [] ticks t = ((t, tt), refl)
+one_more w v (u ∷ us) (first, ticks) t = let h = one_more u v us ticks t in ((first, h.0), h.1)
+
+run_on : (old new : Worldly) → HasRun old → IsNextTick old new → HasRun new
+run_on old new run t =
+    let h = one_more run.first new run.ticks run.passed (subst (λ w. IsNextTick w new) run.last t) in
+    record { first = run.first; ticks = run.ticks ++ new ∷ []; begun = run.begun; passed = h.0; last = h.1 }
+
+-- a world that has run has run after a tick that answers Ok
+pub runs_on : {A : Type 0} (r : Result A Error) (old new : Worldly) → HasRun old → new.plan ≡ old.plan → OnOk r (new.now ≡ old.now + 1)
+    → OnOk r (IsTick old new) → OnOk r (HasRun new)
+runs_on (Ok x) old new run plan now tick = run_on old new run (record { plan = plan; now = now; tick = tick })
+runs_on (Err e) old new run plan now tick = tt
 
 -- ---- From the beginning on
 
