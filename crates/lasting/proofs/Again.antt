@@ -87,7 +87,7 @@ module _ (old new : Worldly) (phase : ℕ) (rest : IsResting phase old) (others 
           still_quiet was.0 n was.2.0 (rest.standing.nodes k (NodeMember was.0) le was.1)
 
   -- the world is as settled as before, if nothing is under way
-  pub rests_again : new.plan ≡ old.plan → pending_on new.wires.cabling ≡ [] → AreSparedFrom (IsNoNextRouter new.stations) 0 new.wires.maps
+  pub rests_again : new.plan ≡ old.plan → pending_on new.wires.cabling ≡ [] → AreSparedFrom (IsNoNextRouter new.stations (plan_seats new.plan)) 0 new.wires.maps
       → AreFresh new.stations → IsResting (phase_after phase) new
   rests_again same pending spared fresh =
       let s = stays old new phase rest others tick Lossless none same in

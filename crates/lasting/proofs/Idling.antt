@@ -1,15 +1,16 @@
 -- Where what a tick gives up is for no next router, mappings that pass it poison no row.
-use Rattle.std.proofs.Common.{◌≡◌, ◌≢◌, ◌⊎◌, inl, inr, ℕ, zero, suc, ◌+◌, ◌≤◌, ◌==◌, arith, Bool, true, false, not, cond, List, [], ◌∷◌, map, filter, if◌then◌else◌}
+use Rattle.std.proofs.Common.{◌≡◌, ℕ, zero, suc, ◌+◌, ◌<◌, ◌≤◌, ◌==◌, arith, length, Bool, true, false, not, cond, List, [], ◌∷◌, map, filter, if◌then◌else◌}
 use Rattle.std.proofs.Common.{Option, Some, None, refl, sym, ap, ◌∙◌, subst, slice_get}
 use Rattle.std.specs.Prelude.{fold, slice_set}
 use Rattle.std.specs.List.{AllByRecursion as Each}
-use Rattle.std.proofs.lemmas.Bool.{cases_eq, not-true}
-use Rattle.aarp.specs.Mapping.{Mappings, asked_once_more, each_once, given_up as given_up_of, is_asked_again, waited}
+use Rattle.std.proofs.lemmas.Bool.{not-true}
+use Rattle.aarp.specs.Mapping.{Mappings, each_once, given_up as given_up_of, is_asked_again, waited}
 use Rattle.aarp.specs.declared.held.Held.{Held}
 use Rattle.at_base.specs.Address.{same_address}
 use Rattle.at_base.specs.declared.address.Addr.{Addr}
-use Rattle.audit.proofs.WalkLists.{At, at_map}
+use Rattle.audit.proofs.WalkLists.{At}
 use Rattle.cable_model.proofs.Counting.{each_map, each_more, filter_at}
+use Rattle.cable_model.specs.declared.seat.Seat.{Seat}
 use Rattle.lasting.specs.Settled.{IsNoNextRouter}
 use Rattle.live_cables.specs.Finding.{held_at}
 use Rattle.live_cables.specs.Holding.{with_tick}
@@ -41,9 +42,17 @@ get_set_other (x ∷ xs) (suc k) (suc l) y other = get_set_other xs k l y (λ e.
 -- ---- What is given up is for no next router
 
 -- each datagram that a tick gives up at this seat or a later one is for an address with this property
-abbrev pub AreSparedFrom : (Addr → Type 0) → ℕ → List Mappings → Type 0
+abbrev pub AreSparedFrom : (ℕ → Addr → Type 0) → ℕ → List Mappings → Type 0
 AreSparedFrom P first maps =
-    (seat k : ℕ) (h : Held) → first ≤ seat → At (held_at maps seat) k h → is_asked_again h ≡ false → P h.next
+    (seat k : ℕ) (h : Held) → first ≤ seat → At (held_at maps seat) k h → is_asked_again h ≡ false → P seat h.next
+
+-- The seats are those of the stations' ports, router by router: these are the first ones.
+pub record AreLaid (seats : List Seat) (stations : List (Member Living LivingNode)) : Type 0 where
+  pub first : ℕ → ℕ
+  pub begins : first 0 ≡ 0
+  pub next : (k : ℕ) (l : Living) → At stations k (RouterMember l) → first (suc k) ≡ first k + length l.router.ports
+  pub own : (k : ℕ) (l : Living) (q : ℕ) → At stations k (RouterMember l) → q < length l.router.ports
+      → (s : Seat) × At seats (first k + q) s × (s.station ≡ k)
 
 each_of : {X : Type 0} (P : X → Type 0) (xs : List X) → ((k : ℕ) (x : X) → At xs k x → P x) → Each P xs
 each_of P [] f = tt
@@ -88,22 +97,25 @@ none_given : (P : Addr → Type 0) (m : Member Living LivingNode) (addrs : List 
 none_given P m [] same h = refl
 none_given P m (a ∷ addrs) same h = ap (λ (z : Member Living LivingNode). fold given_up z addrs) (same a h.0) ∙ none_given P m addrs same h.1
 
-aged_same : (P : Addr → Type 0) (seat : ℕ) (m now : Member Living LivingNode) (old new : Wires) → AreSparedFrom P seat old.maps
-    → ((a : Addr) → P a → given_up m a ≡ m) → IsAged seat m now old new → (now ≡ m) × AreSparedFrom P (seat + 1) new.maps
+aged_same : (P : ℕ → Addr → Type 0) (seat : ℕ) (m now : Member Living LivingNode) (old new : Wires) → AreSparedFrom P seat old.maps
+    → ((a : Addr) → P seat a → given_up m a ≡ m) → IsAged seat m now old new → (now ≡ m) × AreSparedFrom P (seat + 1) new.maps
 aged_same P seat m now old new spared same h = (
-  h.told ∙ none_given P m (given_up_of (held_at old.maps seat)) same (given_for P (held_at old.maps seat) (λ k x. spared seat k x (omega arith))),
+  h.told
+      ∙ none_given (P seat) m (given_up_of (held_at old.maps seat)) same
+      (given_for (P seat) (held_at old.maps seat) (λ k x. spared seat k x (omega arith))),
   subst (AreSparedFrom P (seat + 1)) (sym h.passes.5) (λ s k x le at.
-  spared s k x (omega (arith, le)) (subst (λ l. At l k x) (other_held old.maps seat s (λ e. absurd (omega (arith, le, e)))) at)),
+      spared s k x (omega (arith, le)) (subst (λ l. At l k x) (other_held old.maps seat s (λ e. absurd (omega (arith, le, e)))) at)),
 )
 
-pub all_aged : (P : Addr → Type 0) (seat ports : ℕ) (m now : Member Living LivingNode) (old new : Wires) → AreSparedFrom P seat old.maps
-    → ((a : Addr) → P a → given_up m a ≡ m) → AreAged seat ports m now old new → (now ≡ m) × AreSparedFrom P (seat + ports) new.maps
+pub all_aged : (P : ℕ → Addr → Type 0) (seat ports : ℕ) (m now : Member Living LivingNode) (old new : Wires) → AreSparedFrom P seat old.maps
+    → ((j : ℕ) (a : Addr) → seat ≤ j → j < seat + ports → P j a → given_up m a ≡ m) → AreAged seat ports m now old new
+    → (now ≡ m) × AreSparedFrom P (seat + ports) new.maps
 all_aged P seat zero m now old new spared same h =
     (h.0, λ s k x le. subst (λ (w : Wires). AreSparedFrom P seat w.maps) (sym h.1) spared s k x (omega (arith, le)))
 all_aged P seat (suc ports) m now old new spared same (before, mid, first, last) =
-    let w = all_aged P seat ports m before old mid spared same first in
-    let still : (a : Addr) → P a → given_up before a ≡ before =
-    λ a p. ap (λ (z : Member Living LivingNode). given_up z a) w.0 ∙ (same a p ∙ sym w.0) in
+    let w = all_aged P seat ports m before old mid spared (λ j a le lt p. same j a le (omega (arith, lt)) p) first in
+    let still : (a : Addr) → P (seat + ports) a → given_up before a ≡ before =
+    λ a p. ap (λ (z : Member Living LivingNode). given_up z a) w.0 ∙ (same (seat + ports) a (omega arith) (omega arith) p ∙ sym w.0) in
     let v = aged_same P (seat + ports) before now mid new w.1 still last in
     (v.0 ∙ w.0, λ s k x le. v.1 s k x (omega (arith, le)))
 
@@ -132,10 +144,13 @@ aged_elsewhere a rows h =
     one r false e = e
 
 -- a router of which no row leads to the address is the same, in a tick, after AARP gave up on it
-pub router_spared : (stations : List (Member Living LivingNode)) (k : ℕ) (l now : Living) (x : Addr) → At stations k (RouterMember l)
-    → now.router.routes ≡ routes_aged (phase_after l.phase) l.router.routes → IsNoNextRouter stations x → given_up (RouterMember now) x ≡ RouterMember now
-router_spared stations k l now x e is none =
-    let rows = each_of (IsElsewhere x) l.router.routes (λ n c ec far. none k l n c e ec far) in
+pub router_spared : (stations : List (Member Living LivingNode)) (seats : List Seat) (k : ℕ) (l now : Living) (j : ℕ) (s : Seat) (x : Addr)
+    → At stations k (RouterMember l) → At seats j s → s.station ≡ k
+    → now.router.routes ≡ routes_aged (phase_after l.phase) l.router.routes → IsNoNextRouter stations seats j x
+    → given_up (RouterMember now) x ≡ RouterMember now
+router_spared stations seats k l now j s x e es of is none =
+    let there : At stations s.station (RouterMember l) = subst (λ n. At stations n (RouterMember l)) (sym of) e in
+    let rows = each_of (IsElsewhere x) l.router.routes (λ n c ec far. none s l n c es there ec far) in
     let later : Each (IsElsewhere x) (routes_aged (phase_after l.phase) l.router.routes) = by (phase_after l.phase == 0) rows in
     let same : poisoned x now.router.routes ≡ now.router.routes =
     none_poisoned x now.router.routes (subst (Each (IsElsewhere x)) (sym is) later) in

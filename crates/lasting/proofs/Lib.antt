@@ -14,10 +14,10 @@ pub mod Alike
 pub mod Passed
 pub mod Served
 pub mod Bounded
+pub mod Idling
 pub mod Images
 pub mod Ground
 pub mod Likeness
-pub mod Idling
 pub mod Turning
 pub mod Rested
 pub mod Ticking

@@ -25,7 +25,7 @@ use Rattle.lasting.proofs.Again.{AreFresh, stood}
 use Rattle.lasting.proofs.Ageing.{all_spoken}
 use Rattle.lasting.proofs.Brightening.{bright}
 use Rattle.lasting.proofs.Given.{IsFineOn, IsLossless}
-use Rattle.lasting.proofs.Ground.{grounded, image_count, image_router, router_first}
+use Rattle.lasting.proofs.Ground.{grounded, image_count, image_router, laid, router_first}
 use Rattle.lasting.proofs.Images.{mapped, seat_of}
 use Rattle.lasting.proofs.Promising.{AreBright, IsPromise, all_fresh, all_kept}
 use Rattle.lasting.proofs.Refreshing.{IsFreshAt}
@@ -164,16 +164,17 @@ module _ (old new : Worldly) (phase : ℕ) (rest : IsResting phase old) (others 
       let seats = plan_seats old.plan in
       let lossless : Unit {0} → (cable : ℕ) → loses_at old.plan new.now cable ≡ false = λ u. none in
       let rows = good old new phase rest others tick (Unit {0}) lossless in
+      let by_seats = laid old.plan phase old.stations old.wires.maps rest.standing in
       let p = tick.plays in
       let b0 = p.begins in
       let start : Wires = record old.wires { losing = tick.losing } in
       let wires : (start.cabling.seats ≡ seats) × IsFineOn (IsToldOf i) (Unit {0}) start.cabling × (Unit {0} → IsLossless (IsToldOf i) (Unit {0}) start) =
       (rest.seats, fine old new phase rest others tick (Unit {0}) lossless, λ (u : Unit {0}) (cable : ℕ). tick.loses cable ∙ none cable) in
       let first =
-      all_passed i rest.passes rest.settled rest.bounded seats old.stations ground (Unit {0}) rows (length old.stations) b0.seats p.passed start b0.wires wires
+      all_passed i rest.passes rest.settled rest.bounded seats old.stations ground (Unit {0}) rows by_seats (length old.stations) b0.seats p.passed start b0.wires wires
       rest.spared b0.passes (omega arith) in
       let spoken =
-      all_spoken i rest.passes rest.settled rest.bounded seats old.stations ground rows seated speaks
+      all_spoken i rest.passes rest.settled rest.bounded seats old.stations ground rows by_seats seated speaks
       (λ k a b ea q c e m p sent. short q c.range c.tentative m b.router.routes p sent) (length old.stations) b0.seats p.passed start b0.wires wires
       rest.spared before.below b0.passes in
       let many = first.0.count in

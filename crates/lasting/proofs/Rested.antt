@@ -24,14 +24,14 @@ pub record IsResting (phase : ℕ) (w : Worldly) : Type 0 where
   pub seats : w.wires.cabling.seats ≡ plan_seats w.plan
   pub pending : pending_on w.wires.cabling ≡ []
   pub plain : (d : Holding) → Has (still_held (happened w.wires)) d → IsPlain d.bytes
-  pub spared : AreSparedFrom (IsNoNextRouter w.stations) 0 w.wires.maps
+  pub spared : AreSparedFrom (IsNoNextRouter w.stations (plan_seats w.plan)) 0 w.wires.maps
   pub standing : AreStanding w.plan phase w.stations
   pub passes : Passes (frozen_as V1 w)
   pub settled : IsSettled (frozen_as V1 w)
   pub bounded : IsBounded (frozen_as V1 w)
 
 -- where nothing is held, nothing is given up
-pub idle_spared : (w : Worldly) → IsStill w → AreSparedFrom (IsNoNextRouter w.stations) 0 w.wires.maps
+pub idle_spared : (w : Worldly) → IsStill w → AreSparedFrom (IsNoNextRouter w.stations (plan_seats w.plan)) 0 w.wires.maps
 idle_spared w still seat k h le e over = let f = subst (λ l. slice_get l k ≡ Some h) (still.idle seat) e in cc
 
 pub at_rest : (phase : ℕ) (w : Worldly) → IsAtRest phase w → IsResting phase w

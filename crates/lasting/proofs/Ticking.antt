@@ -5,7 +5,7 @@ use Rattle.cable_model.specs.Logs.{pending_on}
 use Rattle.cable_model.specs.Pending.{Pair}
 use Rattle.lasting.proofs.Bounded.{still_bounded}
 use Rattle.lasting.proofs.Given.{IsFineOn}
-use Rattle.lasting.proofs.Ground.{grounded}
+use Rattle.lasting.proofs.Ground.{grounded, laid}
 use Rattle.lasting.proofs.Likeness.{image_moved, nodes_as_many, nodes_served}
 use Rattle.lasting.proofs.Passed.{HasGoodRows}
 use Rattle.lasting.proofs.Rested.{IsResting}
@@ -68,7 +68,7 @@ module _ (old new : Worldly) (phase : ℕ) (rest : IsResting phase old) (others 
       let p = tick.plays in
       let b = p.begins in
       let first =
-      all_passed (frozen_as V1 old) rest.passes rest.settled rest.bounded (plan_seats old.plan) old.stations ground Lossless good (length old.stations) b.seats
+      all_passed (frozen_as V1 old) rest.passes rest.settled rest.bounded (plan_seats old.plan) old.stations ground Lossless good (laid old.plan phase old.stations old.wires.maps rest.standing) (length old.stations) b.seats
       p.passed (record old.wires { losing = tick.losing }) b.wires
       (rest.seats, fine, λ l cable. tick.loses cable ∙ none l cable) rest.spared b.passes (omega arith) in
       let second =

@@ -1,5 +1,5 @@
 -- The steps of a tick, one after the other, in a world whose image passes and is settled.
-use Rattle.std.proofs.Common.{◌≡◌, inl, inr, ℕ, zero, suc, ◌+◌, ◌<◌, ◌≤◌, Bool, true, false, List, [], ◌∷◌, ◌++◌}
+use Rattle.std.proofs.Common.{◌≡◌, inl, inr, ℕ, zero, suc, ◌+◌, ◌-◌, ◌<◌, ◌≤◌, Bool, true, false, List, [], ◌∷◌, ◌++◌}
 use Rattle.std.proofs.Common.{Option, Some, None, Result, Ok, Err, refl, sym, ap, ◌∙◌, subst, slice_get, length, arith}
 use Rattle.std.specs.Prelude.{Contains, cond, nat_lt, option_map, slice_set}
 use Rattle.std.specs.List.{AllByRecursion as Each}
@@ -28,7 +28,7 @@ use Rattle.internet_file.specs.declared.action.Do.{Do}
 use Rattle.internet_file.specs.declared.action.Do.TheVariants.{Send, Lookup}
 use Rattle.lasting.proofs.Alike.{AreGround, IsLike, IsStationAt, hears_alike, node_like, router_like, seat_hears}
 use Rattle.lasting.proofs.Given.{IsFineOn, IsFineStep, IsLossless, MayPut, fine_taken, fine_then, gives_same, gives_step, passes_step, step_same, step_then, takes_step}
-use Rattle.lasting.proofs.Idling.{AreSparedFrom, all_aged, get_set, get_set_other, node_aged, router_spared}
+use Rattle.lasting.proofs.Idling.{AreLaid, AreSparedFrom, all_aged, get_set, get_set_other, node_aged, router_spared}
 use Rattle.lasting.proofs.Passed.{AreToAll, HasGoodRows, HasTickedTo, plain_all, ticked_then, ticks_alike}
 use Rattle.lasting.proofs.Plainly.{made_plain, two}
 use Rattle.lasting.proofs.Telling.{IsToldOf}
@@ -63,7 +63,7 @@ module _ (i : Internet) (ok : Passes i) (settled : IsSettled i) (bounded : IsBou
     (stations : List (Member Living LivingNode)) (ground : AreGround i seats stations) (Lossless : Type 0) where
   -- what the seats from this one on give up is for no next router of these stations
   abbrev pub AreSpared : ℕ → Wires → Type 0
-  AreSpared seat w = AreSparedFrom (IsNoNextRouter stations) seat w.maps
+  AreSpared seat w = AreSparedFrom (IsNoNextRouter stations seats) seat w.maps
 
   abbrev IsGoodWires : Wires → Type 0
   IsGoodWires w = (w.cabling.seats ≡ seats) × IsFineOn (IsToldOf i) Lossless w.cabling × (Lossless → IsLossless (IsToldOf i) Lossless w)
@@ -110,13 +110,13 @@ module _ (i : Internet) (ok : Passes i) (settled : IsSettled i) (bounded : IsBou
 
   -- ---- All stations pass a tick
 
-  module _ (good : (k : ℕ) (m : Member Living LivingNode) → At stations k m → HasGoodRows m) where
+  module _ (good : (k : ℕ) (m : Member Living LivingNode) → At stations k m → HasGoodRows m) (laid : AreLaid seats stations) where
     -- The first stations have passed a tick, and the others are as they were; what their seats give up is for no next
     -- router as long as only routers passed.
     pub record HasCome (number seat : ℕ) (now : List (Member Living LivingNode)) (w : Wires) : Type 0 where
       pub through : IsThrough now w
       pub later : (k : ℕ) → number ≤ k → slice_get now k ≡ slice_get stations k
-      pub idle : number ≤ length i.routers → AreSpared seat w
+      pub idle : number ≤ length i.routers → (seat ≡ laid.first number) × AreSpared seat w
       pub ticked : (k : ℕ) (a b : Member Living LivingNode) → k < number → At stations k a → At now k b → HasTickedTo a b
 
     -- the mappings of a station's seats pass a tick
@@ -131,10 +131,13 @@ module _ (i : Internet) (ok : Passes i) (settled : IsSettled i) (bounded : IsBou
           last.passes.6.losing ∙ w.1,
         )
 
+    abbrev IsSparedAfter : ℕ → ℕ → Wires → Type 0
+    IsSparedAfter number seat w = (seat ≡ laid.first (suc number)) × AreSpared seat w
+
     -- a station passes a tick: the cables are as good as before, and it is like before
     pub one_passed : (number seat : ℕ) (m after : Member Living LivingNode) (old new : Wires) → At stations number m → IsGoodWires old
-        → (number < length i.routers → AreSpared seat old) → HasPassed number seat m after old new
-        → IsGoodWires new × IsLike i number m after × (number < length i.routers → AreSpared (seat + ports_of after) new) × HasTickedTo m after
+        → (number < length i.routers → (seat ≡ laid.first number) × AreSpared seat old) → HasPassed number seat m after old new
+        → IsGoodWires new × IsLike i number m after × (number < length i.routers → IsSparedAfter number (seat + ports_of after) new) × HasTickedTo m after
     one_passed number seat m after old new em wires idle (ticked, mid, tick, ages) =
         let t = ticks_alike i ok seats number m ticked (ground number m em) tick.outputs (good number m em) tick.ticks in
         let before : Wires = record old { own = settled_own ticked seat (ports_of ticked) old.own } in
@@ -148,16 +151,23 @@ module _ (i : Internet) (ok : Passes i) (settled : IsSettled i) (bounded : IsBou
       where
         finish : (m ticked : Member Living LivingNode) → At stations number m → IsStationAt i seats number m → IsLike i number m ticked
             → AreToAll m tick.outputs → EitherTicks RouterTicks NodeTicks m tick.outputs ticked → AreAged seat (ports_of ticked) ticked after mid new
-            → (after ≡ ticked) × (number < length i.routers → AreSpared (seat + ports_of after) new)
+            → (after ≡ ticked) × (number < length i.routers → IsSparedAfter number (seat + ports_of after) new)
         finish (RouterMember a) (RouterMember b) em g like all h ages =
             let low = at_within i.routers number g.x g.x_at in
             let still : AreSpared seat mid =
-            subst (AreSparedFrom (IsNoNextRouter stations) seat) (sym (gives_same number tick.outputs _ mid all tick.gives)) (idle low) in
+            subst (AreSparedFrom (IsNoNextRouter stations seats) seat) (sym (gives_same number tick.outputs _ mid all tick.gives)) (idle low).1 in
             let routes = (ticks a b tick.outputs g.settled h).routes in
+            let at_first = (idle low).0 in
+            let many : length b.router.ports ≡ length a.router.ports = ap length like.0.ports in
             let w =
-            all_aged (IsNoNextRouter stations) seat (ports_of (RouterMember b)) (RouterMember b) after mid new still
-            (λ x none. router_spared stations number a b x em routes none) ages in
-            (w.0, λ lt. subst (λ (z : Member Living LivingNode). AreSpared (seat + ports_of z) new) (sym w.0) w.1)
+            all_aged (IsNoNextRouter stations seats) seat (ports_of (RouterMember b)) (RouterMember b) after mid new still
+            (λ j x le lt none.
+            let s = laid.own number a (j - seat) em (omega (arith, le, lt, many)) in
+            let here : laid.first number + (j - seat) ≡ j = omega (arith, at_first, le) in
+            router_spared stations seats number a b j s.0 x em (subst (λ n. At seats n s.0) here s.1) s.2 routes none) ages in
+            let after_first : seat + ports_of (RouterMember b) ≡ laid.first (suc number) =
+            let next = laid.next number a em in omega (arith, next, at_first, many) in
+            (w.0, λ lt. subst (λ (z : Member Living LivingNode). IsSparedAfter number (seat + ports_of z) new) (sym w.0) (after_first, w.1))
         finish (NodeMember a) (NodeMember b) em g like all h ages =
             let number = g.number in
             (node_aged seat 1 b after mid new ages, λ lt. absurd (omega (arith, lt, number)))
@@ -182,7 +192,7 @@ module _ (i : Internet) (ok : Passes i) (settled : IsSettled i) (bounded : IsBou
                     subst (IsLike i k a) is (self_like k a (ground k a ea));
               };
           later = λ k le. ap (λ l. slice_get l k) same;
-          idle = λ le. subst (AreSpared seat) (sym stays) (subst (λ n. AreSpared n old) (sym first) idle);
+          idle = λ le. (first ∙ sym laid.begins, subst (AreSpared seat) (sym stays) (subst (λ n. AreSpared n old) (sym first) idle));
           ticked = λ k a b lt ea eb. absurd (omega (arith, lt));
         }
     all_come (suc number) next now old new wires idle (seat, before, mid, passes, m, after, em, passed, set, at) =
@@ -202,7 +212,7 @@ module _ (i : Internet) (ok : Passes i) (settled : IsSettled i) (bounded : IsBou
           later = λ k le.
               ap (λ l. slice_get l k) set
               ∙ (get_set_other before number k after (λ s. absurd (omega (arith, s, le))) ∙ h.later k (omega (arith, le)));
-          idle = λ le. subst (λ n. AreSpared n new) (sym at) (o.2 (omega (arith, le)));
+          idle = λ le. subst (λ n. IsSparedAfter number n new) (sym at) (o.2 (omega (arith, le)));
           ticked = λ k a b lt ea eb.
               elim (cases_eq k number) [
                 | inl here ↦

@@ -15,6 +15,8 @@ use Rattle.live_cables.specs.Finding.{held_at}
 use Rattle.live_cables.specs.Living.{happened}
 use Rattle.live_node.specs.Living.{LivingNode}
 use Rattle.live_router.specs.Living.{Living}
+use Rattle.cable_model.specs.declared.seat.Seat.{Seat}
+use Rattle.planned_stations.specs.Seating.{plan_seats}
 use Rattle.rtmp.specs.Routes.{is_direct}
 use Rattle.rtmp.specs.declared.row.Row.{Row}
 use Rattle.settled.specs.Exchange.{AreGood}
@@ -32,36 +34,35 @@ abbrev pub HasSettled : Member Living LivingNode → Type 0
 HasSettled (member.Router l) = AreSettled l.router.ports × AreGood l.router.routes
 HasSettled (member.Node n) = IsQuietNode n
 
--- no row of a router leads to the address
-abbrev pub IsNoNextRouter : List (Member Living LivingNode) → Addr → Type 0
-IsNoNextRouter stations a =
-    (k : ℕ) (l : Living) (n : ℕ) (row : Row) → slice_get stations k ≡ Some (member.Router l) → slice_get l.router.routes n ≡ Some row
-    → is_direct row ≡ false → same_address row.next a ≡ false
+-- no row of the router of this seat, if it is a router's, leads to the address
+abbrev pub IsNoNextRouter : List (Member Living LivingNode) → List Seat → ℕ → Addr → Type 0
+IsNoNextRouter stations seats seat a =
+    (s : Seat) (l : Living) (n : ℕ) (row : Row) → slice_get seats seat ≡ Some s → slice_get stations s.station ≡ Some (member.Router l)
+    → slice_get l.router.routes n ≡ Some row → is_direct row ≡ false → same_address row.next a ≡ false
 
--- No datagram that the next tick gives up, since its address was asked for often enough, is for a router to which a row leads:
--- no row is poisoned.
-abbrev pub GivesUpNoRouter : Worldly → Type 0
-GivesUpNoRouter w =
+-- The next tick gives up no datagram, since its address was asked for often enough, that a router holds for one to which a row
+-- of its own leads: it poisons no row.
+abbrev pub PoisonsNoRow : Worldly → Type 0
+PoisonsNoRow w =
     (seat k : ℕ) (h : Held) → slice_get (held_at w.wires.maps seat) k ≡ Some h → is_asked_again h ≡ false
-    → IsNoNextRouter w.stations h.next
+    → IsNoNextRouter w.stations (plan_seats w.plan) seat h.next
 
--- No frame is under way; no datagram of type 1 or 6 is held, and the next tick gives up none for a router to which a row leads;
--- the stations have settled; and the image, of version 1, is one, passes the audit and is settled.
+-- No frame is under way; no datagram of type 1 or 6 is held, and the next tick poisons no row; the stations have settled; and
+-- the image, of version 1, is within an image's limits, passes the audit and is settled.
 pub record IsSettledWorld (w : Worldly) : Type 0 where
   pub pending : pending_on w.wires.cabling ≡ []
   pub plain : (k : ℕ) (h : Holding) → slice_get (still_held (happened w.wires)) k ≡ Some h → IsPlain h.bytes
-  pub spared : GivesUpNoRouter w
+  pub spared : PoisonsNoRow w
   pub stations : (k : ℕ) (m : Member Living LivingNode) → slice_get w.stations k ≡ Some m → HasSettled m
   pub passes : Passes (frozen_as V1 w)
   pub settled : IsSettled (frozen_as V1 w)
   pub bounded : IsBounded (frozen_as V1 w)
 
--- The world passed a tick, which left no frame under way, and after which the next one gives up no datagram for a router to
--- which a row leads.
+-- The world passed a tick, which left no frame under way, and after which the next one poisons no row.
 pub record IsCleanTick (old new : Worldly) : Type 0 where
   pub next : IsNextTick old new
   pub pending : pending_on new.wires.cabling ≡ []
-  pub spared : GivesUpNoRouter new
+  pub spared : PoisonsNoRow new
 
 -- each of these worlds is the one before it after such a tick
 abbrev pub AreCleanTicks : Worldly → List Worldly → Type 0

@@ -97,11 +97,11 @@ pub fn ticks_stay_settled()
 {}
 
 /// A world has come from its beginning by ticks, and has settled: no frame is under way; no datagram
-/// of type 1 or 6 is held, and the next tick gives up none for a router to which a row leads; its
-/// stations have settled; and its image passes the audit and is settled. It passes further ticks, one
-/// after the other, each of which leaves no frame under way, and gives up no datagram for such a
-/// router, while no cable loses frames and no later action of the plan sends a datagram of type 1 or
-/// 6. After them it has settled as before, and each row has its range and its distance.
+/// of type 1 or 6 is held, and the next tick poisons no row; its stations have settled; and its image
+/// passes the audit and is settled. It passes further ticks, one after the other, each of which leaves
+/// no frame under way and no row for the next one to poison, while no cable loses frames and no later
+/// action of the plan sends a datagram of type 1 or 6. After them it has settled as before, and each
+/// row has its range and its distance.
 pub fn settled_worlds_stay_settled()
     ensures { (w : Worldly) (vs : List Worldly) → HasRun w → IsSettledWorld w
         → AreOtherAfter w.plan w.now → LosesNothingAfter w.plan w.now → AreCleanTicks w vs
