@@ -1,7 +1,8 @@
 -- Worlds that have run from their beginning: what all of them have; and if they have settled, they stay so.
-use Rattle.std.proofs.Common.{◌+◌, ◌++◌, ◌∷◌, Result, Ok, Err}
+use Rattle.std.proofs.Common.{◌%◌, ◌+◌, ◌++◌, ◌∷◌, Result, Ok, Err}
 use Rattle.std.proofs.Common.{◌≡◌, inl, inr, ℕ, List, [], refl, sym, ap, ◌∙◌, subst, length, arith}
 use Rattle.std.specs.Prelude.{OnOk}
+use Rattle.std.proofs.Math.Nat.{mod-add-mod}
 use Rattle.std.proofs.lemmas.Bool.{cases_lt}
 use Rattle.at_base.specs.declared.error.Error.{Error}
 use Rattle.audit.proofs.WalkLists.{At, at_below}
@@ -15,8 +16,8 @@ use Rattle.lasting.proofs.Placed.{ArePlaced, IsNode, IsPlaced, begun_placed, sti
 use Rattle.lasting.proofs.Rested.{IsResting}
 use Rattle.lasting.proofs.Tabled.{route_map}
 use Rattle.lasting.specs.Begun.{AreNextTicks, HasRun, IsBegun, IsNextTick}
-use Rattle.lasting.specs.Resting.{AreOtherAfter, HasSameDistances, IsBelow, IsNumbered, LosesNothingAfter, last_of}
-use Rattle.lasting.specs.Settled.{AreCleanTicks, HasSettled, IsSettledWorld}
+use Rattle.lasting.specs.Resting.{AreOtherAfter, HasSameDistances, IsBelow, IsNumbered, last_of}
+use Rattle.lasting.specs.Settled.{AreCleanTicks, HasSettled, IsSettledWorld, LosesNothingWhereRowsAge}
 use Rattle.lasting.specs.Standing.{AreStanding, IsStandingAsNode, IsStandingAsRouter}
 use Rattle.live_cables.specs.Living.{Wires, happened}
 use Rattle.live_node.specs.Living.{LivingNode}
@@ -50,12 +51,11 @@ runs_on (Err e) old new run plan now tick = tt
 
 -- ---- From the beginning on
 
--- Frames are numbered, the seats are the plan's, and the stations are those of the plan, all routers in one phase.
+-- Frames are numbered, the seats are the plan's, and the stations are those of the plan, all routers in the phase of the tick.
 pub record HasCome (w : Worldly) : Type 0 where
   pub numbered : IsNumbered w
   pub seats : w.wires.cabling.seats ≡ plan_seats w.plan
-  pub phase : ℕ
-  pub placed : ArePlaced w.plan phase w.stations
+  pub placed : ArePlaced w.plan (w.now % 100) w.stations
 
 begun_come : (w : Worldly) → IsBegun w → HasCome w
 begun_come w b = record {
@@ -64,18 +64,17 @@ begun_come w b = record {
     below = subst (λ (x : Wires). IsBelow (happened x)) (sym b.wires) tt;
   };
   seats = ap (λ (x : Wires). x.cabling.seats) b.wires;
-  phase = 0;
-  placed = begun_placed w.plan w.stations b.stations;
+  placed = subst (λ n. ArePlaced w.plan (n % 100) w.stations) (sym b.now) (begun_placed w.plan w.stations b.stations);
 }
 
 tick_comes : (old new : Worldly) → HasCome old → IsNextTick old new → HasCome new
 tick_comes old new h t = record {
   numbered = numbered_on old new h.numbered t.tick;
   seats = (tick_counts old new t.tick).seats ∙ (h.seats ∙ ap plan_seats (sym t.plan));
-  phase = phase_after h.phase;
   placed =
-      subst (λ (p : Planned). ArePlaced p (phase_after h.phase) new.stations) (sym t.plan)
-      (still_placed old.plan h.phase old.stations new.stations h.placed (tick_keeps old new t.tick));
+      subst (λ (p : Planned). ArePlaced p (new.now % 100) new.stations) (sym t.plan)
+      (subst (λ n. ArePlaced old.plan n new.stations) (mod-add-mod old.now 100 1 ∙ ap (λ n. n % 100) (sym t.now))
+      (still_placed old.plan (old.now % 100) old.stations new.stations h.placed (tick_keeps old new t.tick)));
 }
 
 all_come : (w : Worldly) (vs : List Worldly) → HasCome w → AreNextTicks w vs → HasCome (last_of w vs)
@@ -91,12 +90,12 @@ module _ (w : Worldly) (come : HasCome w) (s : IsSettledWorld w) where
   routers : AreRouters w.plan.routers w.stations
   routers k r m er em = by m (come.placed.routers k r m er em)
     where
-      by : (m : Member Living LivingNode) → IsPlaced w.plan.cables come.phase r m → (l : Living) × (m ≡ RouterMember l)
+      by : (m : Member Living LivingNode) → IsPlaced w.plan.cables (w.now % 100) r m → (l : Living) × (m ≡ RouterMember l)
       by (RouterMember l) h = (l, refl)
       by (NodeMember n) h = absurd h
 
   as_router : (k : ℕ) (r : PlannedRouter) (m : Member Living LivingNode) → At w.plan.routers k r → At w.stations k m
-      → IsPlaced w.plan.cables come.phase r m → HasSettled m → IsStandingAsRouter w.plan.cables come.phase r m
+      → IsPlaced w.plan.cables (w.now % 100) r m → HasSettled m → IsStandingAsRouter w.plan.cables (w.now % 100) r m
   as_router k r (RouterMember l) er em p h =
       let x = router_at w.plan.routers w.stations w.wires.maps k r l routers er em in
       record {
@@ -112,7 +111,7 @@ module _ (w : Worldly) (come : HasCome w) (s : IsSettledWorld w) where
   as_node (RouterMember l) n h = absurd n
   as_node (NodeMember n) o h = h
 
-  pub standing : AreStanding w.plan come.phase w.stations
+  pub standing : AreStanding w.plan (w.now % 100) w.stations
   standing = record {
     whole = let many = come.placed.as_many in omega (arith, many);
     routers = λ k r m er em. as_router k r m er em (come.placed.routers k r m er em) (s.stations k m em);
@@ -120,7 +119,7 @@ module _ (w : Worldly) (come : HasCome w) (s : IsSettledWorld w) where
     as_many = come.placed.as_many;
   }
 
-  pub rests : IsResting come.phase w
+  pub rests : IsResting (w.now % 100) w
   rests = record {
     seats = come.seats;
     pending = s.pending;
@@ -157,9 +156,9 @@ settles phase w h = record {
     of_node (NodeMember n) x = x
 
 pub stays_settled : (w : Worldly) (vs : List Worldly) → HasRun w → IsSettledWorld w → AreOtherAfter w.plan w.now
-    → LosesNothingAfter w.plan w.now → AreCleanTicks w vs
+    → LosesNothingWhereRowsAge w.plan w.now → AreCleanTicks w vs
     → IsSettledWorld (last_of w vs) × HasSameDistances (frozen_as V1 w) (frozen_as V1 (last_of w vs))
 stays_settled w vs run s others lossless ticks =
     let come = has_come w run in
-    let h = always_resting w come.phase vs (rests w come s) others lossless ticks come.numbered in
+    let h = always_resting w vs (rests w come s) others lossless ticks come.numbered in
     (settles h.0 (last_of w vs) h.1, h.2)

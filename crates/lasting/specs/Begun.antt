@@ -7,6 +7,7 @@ use Rattle.world.specs.Worlds.{Worldly, wires_begun}
 
 -- The world is one before its first tick: its stations and its cables are those of its plan.
 pub record IsBegun (w : Worldly) : Type 0 where
+  pub now : w.now ≡ 0
   pub stations : AreBegun w.plan w.stations
   pub wires : w.wires ≡ wires_begun w.plan
 

@@ -1,5 +1,5 @@
 -- What can be seen of a world that has settled.
-use Rattle.std.specs.Prelude.{◌≡◌, ℕ, false, List, [], ◌∷◌, Some, slice_get}
+use Rattle.std.specs.Prelude.{◌≡◌, ◌<◌, ◌%◌, ℕ, false, List, [], ◌∷◌, Some, slice_get}
 use Rattle.aarp.specs.Mapping.{is_asked_again}
 use Rattle.aarp.specs.declared.held.Held.{Held}
 use Rattle.at_base.specs.Address.{same_address}
@@ -8,6 +8,7 @@ use Rattle.audit.specs.Rules.{Passes}
 use Rattle.cable_model.specs.Holdings.{still_held}
 use Rattle.cable_model.specs.Logs.{pending_on}
 use Rattle.cable_model.specs.Transcript.{Holding}
+use Rattle.internet_file.specs.Files.{Planned}
 use Rattle.lasting.specs.Begun.{IsNextTick}
 use Rattle.lasting.specs.Plain.{IsPlain}
 use Rattle.lasting.specs.Standing.{AreSettled, IsQuietNode}
@@ -26,6 +27,7 @@ use Rattle.station.specs.declared.member.Member.TheVariants as member
 use Rattle.table_image.specs.Bounds.{IsBounded}
 use Rattle.table_image.specs.declared.version.Version.TheVariants.{V1}
 use Rattle.world.specs.Frozen.{frozen_as}
+use Rattle.world.specs.Losing.{loses_at}
 use Rattle.world.specs.Worlds.{Worldly}
 
 -- A router has settled on the addresses of its ports, and all of its rows that aren't direct are Good; a node has settled on
@@ -68,3 +70,7 @@ pub record IsCleanTick (old new : Worldly) : Type 0 where
 abbrev pub AreCleanTicks : Worldly → List Worldly → Type 0
 AreCleanTicks w [] = Unit {0}
 AreCleanTicks w (v ∷ vs) = IsCleanTick w v × AreCleanTicks v vs
+
+-- no cable loses frames in a later tick in which rows age, which is each hundredth one
+abbrev pub LosesNothingWhereRowsAge : Planned → ℕ → Type 0
+LosesNothingWhereRowsAge plan now = (tick cable : ℕ) → now < tick → tick % 100 ≡ 0 → loses_at plan tick cable ≡ false

@@ -12,7 +12,7 @@ ghost use Rattle.lasting.specs.Resting.{AreOther, AreOtherAfter, AreTicks};
 ghost use Rattle.lasting.specs.Resting.{IsNumbered, LosesNothingAfter};
 ghost use Rattle.lasting.specs.Resting.{HasSameDistances, IsAtRest, StaysSettled, last_of};
 ghost use Rattle.lasting.specs.Begun.{HasRun};
-ghost use Rattle.lasting.specs.Settled.{AreCleanTicks, IsSettledWorld};
+ghost use Rattle.lasting.specs.Settled.{AreCleanTicks, IsSettledWorld, LosesNothingWhereRowsAge};
 ghost use Rattle.lasting.specs.Standing.{AreSettled};
 ghost use Rattle.live_router.specs.Living.{LiveHears, Living};
 ghost use Rattle.live_router.specs.Ticking.{LiveTicks};
@@ -99,12 +99,12 @@ pub fn ticks_stay_settled()
 /// A world has come from its beginning by ticks, and has settled: no frame is under way; no datagram
 /// of type 1 or 6 is held, and the next tick poisons no row; its stations have settled; and its image
 /// passes the audit and is settled. It passes further ticks, one after the other, each of which leaves
-/// no frame under way and no row for the next one to poison, while no cable loses frames and no later
-/// action of the plan sends a datagram of type 1 or 6. After them it has settled as before, and each
-/// row has its range and its distance.
+/// no frame under way and no row for the next one to poison, while no cable loses frames where rows
+/// age, in each hundredth tick, and no later action of the plan sends a datagram of type 1 or 6. After
+/// them it has settled as before, and each row has its range and its distance.
 pub fn settled_worlds_stay_settled()
     ensures { (w : Worldly) (vs : List Worldly) → HasRun w → IsSettledWorld w
-        → AreOtherAfter w.plan w.now → LosesNothingAfter w.plan w.now → AreCleanTicks w vs
+        → AreOtherAfter w.plan w.now → LosesNothingWhereRowsAge w.plan w.now → AreCleanTicks w vs
         → IsSettledWorld (last_of w vs)
         × HasSameDistances (frozen_as V1 w) (frozen_as V1 (last_of w vs)) }
 {}
