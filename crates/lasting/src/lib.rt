@@ -10,4 +10,4 @@ pub use laws::{
     routing_data_moves_rows, settled_worlds_stay_settled, ticks_between_ageings_stay_settled,
     ticks_stay_settled,
 };
-pub use running::{begin, go_on};
+pub use running::{begin, frozen, go_on};
