@@ -27,6 +27,7 @@ pub mod Numbering
 pub mod Numbered
 pub mod Counted
 pub mod Ranges
+pub mod Stepping
 pub mod Placed
 pub mod Between
 pub mod Promising
@@ -38,3 +39,4 @@ pub mod Refreshed
 pub mod Always
 pub mod Tabled
 pub mod Run
+pub mod Silence

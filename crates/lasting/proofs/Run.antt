@@ -22,7 +22,6 @@ use Rattle.lasting.specs.Standing.{AreStanding, IsStandingAsNode, IsStandingAsRo
 use Rattle.live_cables.specs.Living.{Wires, happened}
 use Rattle.live_node.specs.Living.{LivingNode}
 use Rattle.live_router.specs.Living.{Living}
-use Rattle.live_router.specs.Ticking.{phase_after}
 use Rattle.planned_stations.specs.Seating.{plan_seats}
 use Rattle.station.specs.declared.member.Member.{Member}
 use Rattle.station.specs.declared.member.Member.TheVariants.{Router as RouterMember, Node as NodeMember}

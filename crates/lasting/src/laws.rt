@@ -1,6 +1,6 @@
 //! Laws of live routers and of worlds. Each is the contract of a function that does nothing.
 
-ghost use Rattle.std.specs.Prelude.{◌≡◌, ◌<◌, ◌+◌, ◌∷◌, ℕ, List, [], Some, length, slice_get};
+ghost use Rattle.std.specs.Prelude.{◌≡◌, ◌<◌, ◌≤◌, ◌+◌, ◌∷◌, ℕ, List, [], Some, length, slice_get};
 ghost use Rattle.aarp.specs.Choosing.{Choice};
 ghost use Rattle.at_base.specs.Range.{Span};
 ghost use Rattle.at_base.specs.Spelling.{bytes_of};
@@ -11,9 +11,9 @@ ghost use Rattle.lasting.specs.Plain.{IsPlainFrame};
 ghost use Rattle.lasting.specs.Resting.{AreOther, AreOtherAfter, AreTicks};
 ghost use Rattle.lasting.specs.Resting.{IsNumbered, LosesNothingAfter};
 ghost use Rattle.lasting.specs.Resting.{HasSameDistances, IsAtRest, StaysSettled, last_of};
-ghost use Rattle.lasting.specs.Begun.{HasRun};
+ghost use Rattle.lasting.specs.Begun.{AreNextTicks, HasRun};
 ghost use Rattle.lasting.specs.Settled.{AreCleanTicks, IsSettledWorld, LosesNothingWhereRowsAge};
-ghost use Rattle.lasting.specs.Standing.{AreSettled};
+ghost use Rattle.lasting.specs.Standing.{AreSettled, AskNoMore, HaveAddresses};
 ghost use Rattle.live_router.specs.Living.{LiveHears, Living};
 ghost use Rattle.live_router.specs.Ticking.{LiveTicks};
 ghost use Rattle.rtmp.specs.Data.{RoutingData};
@@ -107,4 +107,11 @@ pub fn settled_worlds_stay_settled()
         → AreOtherAfter w.plan w.now → LosesNothingWhereRowsAge w.plan w.now → AreCleanTicks w vs
         → IsSettledWorld (last_of w vs)
         × HasSameDistances (frozen_as V1 w) (frozen_as V1 (last_of w vs)) }
+{}
+
+/// A world has come from its beginning by ticks, and all its nodes have settled on their addresses.
+/// After 15 ticks or more none of them asks any more about its cable.
+pub fn settled_nodes_ask_no_more()
+    ensures { (w : Worldly) (vs : List Worldly) → HasRun w → HaveAddresses w.stations
+        → AreNextTicks w vs → 15 ≤ length vs → AskNoMore (last_of w vs).stations }
 {}
