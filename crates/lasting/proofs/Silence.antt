@@ -39,15 +39,15 @@ use Rattle.zip_zones.specs.declared.packet.Packet.TheVariants.{Query, Reply, Get
 
 -- the number of ticks after which a node asks no more, that has asked so often and waits so long
 abbrev left : Bool → ℕ → ℕ → ℕ
-left answered asked wait = if not answered && nat_lt asked 3 then (3 - asked) * 5 + wait else 0
+left answered asked wait = if not answered && nat_lt asked 3 then (3 - asked) * 5 + wait - 4 else 0
 
 abbrev pub ticks_left : LivingNode → ℕ
 ticks_left l = left l.answered l.asked l.wait
 
-left_le : (answered : Bool) (asked wait : ℕ) → left answered asked wait ≤ (3 - asked) * 5 + wait
+left_le : (answered : Bool) (asked wait : ℕ) → left answered asked wait ≤ (3 - asked) * 5 + wait - 4
 left_le answered asked wait = by (not answered && nat_lt asked 3)
   where
-    by : (b : Bool) → (if b then (3 - asked) * 5 + wait else 0) ≤ (3 - asked) * 5 + wait
+    by : (b : Bool) → (if b then (3 - asked) * 5 + wait - 4 else 0) ≤ (3 - asked) * 5 + wait - 4
     by true = omega arith
     by false = omega arith
 
@@ -75,14 +75,14 @@ tick_left own l = by (is_some own) l.answered (nat_lt l.asked 3) (l.wait == 0) r
         let asked : asked_after own l ≡ l.asked + 1 = rw (es, ea, ef, ez) refl in
         let wait : wait_after own l ≡ 4 = rw (es, ea, ef, ez) refl in
         let next = left_le false (l.asked + 1) 4 in
-        let before : ticks_left l ≡ (3 - l.asked) * 5 + l.wait = rw (ea, ef) refl in
+        let before : ticks_left l ≡ (3 - l.asked) * 5 + l.wait - 4 = rw (ea, ef) refl in
         let after : left l.answered (asked_after own l) (wait_after own l) ≡ left false (l.asked + 1) 4 = rw (asked, wait, ea) refl in
         (omega (arith, few, none, next, before, after), λ on. omega (arith, few, none, next, before, after))
     by true false true false es ea ef ez =
         let asked : asked_after own l ≡ l.asked = rw (es, ea, ef, ez) refl in
         let wait : wait_after own l ≡ l.wait - 1 = rw (es, ea, ef, ez) refl in
-        let before : ticks_left l ≡ (3 - l.asked) * 5 + l.wait = rw (ea, ef) refl in
-        let after : left l.answered (asked_after own l) (wait_after own l) ≡ (3 - l.asked) * 5 + (l.wait - 1) = rw (asked, wait, ea, ef) refl in
+        let before : ticks_left l ≡ (3 - l.asked) * 5 + l.wait - 4 = rw (ea, ef) refl in
+        let after : left l.answered (asked_after own l) (wait_after own l) ≡ (3 - l.asked) * 5 + (l.wait - 1) - 4 = rw (asked, wait, ea, ef) refl in
         elim (cases_eq l.wait 0) [
           | inl none ↦ absurd (true≢false (sym (eq-eqb l.wait 0 none) ∙ ez))
           | inr some ↦ (omega (arith, before, after), λ on. omega (arith, before, after, some))
@@ -247,14 +247,14 @@ steps : (old new : Worldly) → Rattle.world.specs.Ticking.IsTick old new → Al
 steps old new t = tick_steps Ticked Stayed joins joined self gives_up ticks hears old new t
 
 begun_left : (cables : List Cable) (rs : List PlannedRouter) (ns : List PlannedNode) (ls : List LivingNode) → AreNodesBegun cables ns ls
-    → HaveLeft 15 (map (λ r. RouterMember (router_begun cables r)) rs ++ map NodeMember ls)
+    → HaveLeft 11 (map (λ r. RouterMember (router_begun cables r)) rs ++ map NodeMember ls)
 begun_left cables [] [] [] h k n e = cc
 begun_left cables [] [] (l ∷ ls) h k n e = absurd h
 begun_left cables [] (p ∷ ns) [] h k n e = absurd h
 begun_left cables [] (p ∷ ns) (l ∷ ls) h zero n e =
     let made : l ≡ n = cc in
-    let fifteen : ticks_left l ≡ 15 = ap (λ (z : LivingNode). ticks_left z) h.0.is in
-    subst (λ (z : LivingNode). ticks_left z ≤ 15) made (omega (arith, fifteen))
+    let eleven : ticks_left l ≡ 11 = ap (λ (z : LivingNode). ticks_left z) h.0.is in
+    subst (λ (z : LivingNode). ticks_left z ≤ 11) made (omega (arith, eleven))
 begun_left cables [] (p ∷ ns) (l ∷ ls) h (suc k) n e = begun_left cables [] ns ls h.1 k n e
 begun_left cables (r ∷ rs) ns ls h zero n e = cc
 begun_left cables (r ∷ rs) ns ls h (suc k) n e = begun_left cables rs ns ls h k n e
@@ -266,9 +266,9 @@ still_left most old new h few k n e =
     let less = w.2.0 in
     omega (arith, before, less)
 
-run_left : (w : Worldly) (vs : List Worldly) → HaveLeft 15 w.stations → AreNextTicks w vs → HaveLeft 15 (last_of w vs).stations
+run_left : (w : Worldly) (vs : List Worldly) → HaveLeft 11 w.stations → AreNextTicks w vs → HaveLeft 11 (last_of w vs).stations
 run_left w [] few more = few
-run_left w (v ∷ vs) few (t, more) = run_left v vs (still_left 15 w.stations v.stations (steps w v t.tick) few) more
+run_left w (v ∷ vs) few (t, more) = run_left v vs (still_left 11 w.stations v.stations (steps w v t.tick) few) more
 
 -- nodes that have settled have one tick less each time
 fall : (w : Worldly) (vs : List Worldly) (most : ℕ) → AreSettledNodes w.stations → HaveLeft most w.stations → AreNextTicks w vs
@@ -297,17 +297,17 @@ silent n none = by n.answered (nat_lt n.asked 3) refl refl
     by false false ea ef = rw (ea, ef) refl
     by false true ea ef =
         let few = ltb-true n.asked 3 ef in
-        let is : ticks_left n ≡ (3 - n.asked) * 5 + n.wait = rw (ea, ef) refl in
+        let is : ticks_left n ≡ (3 - n.asked) * 5 + n.wait - 4 = rw (ea, ef) refl in
         absurd (omega (arith, few, is, none))
 
-pub fall_silent : (w : Worldly) (vs : List Worldly) → HasRun w → AreSettledNodes w.stations → AreNextTicks w vs → 15 ≤ length vs
+pub fall_silent : (w : Worldly) (vs : List Worldly) → HasRun w → AreSettledNodes w.stations → AreNextTicks w vs → 11 ≤ length vs
     → (k : ℕ) (n : LivingNode) → At (last_of w vs).stations k (NodeMember n) → asks_on n ≡ false
 fall_silent w vs run have more enough k n e =
     let b = run.begun in
-    let first : HaveLeft 15 run.first.stations =
-    subst (HaveLeft 15) (sym b.stations.are)
+    let first : HaveLeft 11 run.first.stations =
+    subst (HaveLeft 11) (sym b.stations.are)
     (begun_left run.first.plan.cables run.first.plan.routers run.first.plan.nodes b.stations.nodes b.stations.each) in
-    let here : HaveLeft 15 w.stations =
-    subst (λ (z : Worldly). HaveLeft 15 z.stations) (sym run.last) (run_left run.first run.ticks first run.passed) in
-    let low = fall w vs 15 have here more k n e in
+    let here : HaveLeft 11 w.stations =
+    subst (λ (z : Worldly). HaveLeft 11 z.stations) (sym run.last) (run_left run.first run.ticks first run.passed) in
+    let low = fall w vs 11 have here more k n e in
     silent n (omega (arith, low, enough))

@@ -110,8 +110,8 @@ pub fn settled_worlds_stay_settled()
 {}
 
 /// A world has come from its beginning by ticks, and all its nodes have settled on their addresses.
-/// After 15 ticks or more none of them asks any more about its cable.
+/// After 11 ticks or more none of them asks any more about its cable.
 pub fn settled_nodes_ask_no_more()
     ensures { (w : Worldly) (vs : List Worldly) → HasRun w → HaveAddresses w.stations
-        → AreNextTicks w vs → 15 ≤ length vs → AskNoMore (last_of w vs).stations }
+        → AreNextTicks w vs → 11 ≤ length vs → AskNoMore (last_of w vs).stations }
 {}
