@@ -1,22 +1,27 @@
 -- After a tick the stations stand as before it, where all rows that aren't direct are Good.
-use Rattle.std.proofs.Common.{◌≡◌, ◌≢◌, ℕ, ◌≤◌, ◌==◌, false, List, sym, ap, ◌∙◌, subst, length, map, arith, if◌then◌else◌}
+use Rattle.std.proofs.Common.{◌≡◌, ◌≢◌, ℕ, ◌≤◌, ◌==◌, false, List, [], sym, ap, ◌∙◌, subst, length, map, arith, if◌then◌else◌}
 use Rattle.std.proofs.lemmas.Bool.{ne_eqb}
 use Rattle.aarp.specs.Choosing.{Choice}
 use Rattle.audit.proofs.WalkLists.{At, at_below}
+use Rattle.cable_model.specs.Logs.{pending_on}
 use Rattle.internet_file.specs.Files.{Planned}
 use Rattle.internet_file.specs.declared.router.Router.{Router as PlannedRouter}
 use Rattle.lasting.proofs.Alike.{IsLike}
 use Rattle.lasting.proofs.Ground.{image_router, router_first}
+use Rattle.lasting.proofs.Idling.{AreSparedFrom}
 use Rattle.lasting.proofs.Likeness.{node_was, router_was}
 use Rattle.lasting.proofs.Nodes.{still_quiet}
 use Rattle.lasting.proofs.Passed.{HasTickedTo}
 use Rattle.lasting.proofs.Refreshing.{IsFreshAt}
+use Rattle.lasting.proofs.Rested.{IsResting}
 use Rattle.lasting.proofs.Ticking.{both, stays}
-use Rattle.lasting.specs.Resting.{AreOther, IsAtRest, IsStill}
+use Rattle.lasting.specs.Resting.{AreOther}
+use Rattle.lasting.specs.Settled.{IsNoNextRouter}
 use Rattle.lasting.specs.Standing.{AreStanding, IsStandingAsNode, IsStandingAsRouter, IsStandingRouter}
 use Rattle.live_node.specs.Living.{LivingNode}
 use Rattle.live_router.specs.Living.{Living}
 use Rattle.live_router.specs.Ticking.{phase_after, routes_aged}
+use Rattle.planned_stations.specs.Seating.{plan_seats}
 use Rattle.rtmp.specs.Routes.{aged}
 use Rattle.station.specs.declared.member.Member.{Member}
 use Rattle.station.specs.declared.member.Member.TheVariants.{Router as RouterMember, Node as NodeMember}
@@ -24,13 +29,13 @@ use Rattle.table_image.specs.declared.version.Version.TheVariants.{V1}
 use Rattle.world.specs.Frozen.{frozen_as}
 use Rattle.world.specs.Losing.{loses_at}
 use Rattle.world.specs.Ticking.{IsTick}
-use Rattle.world.specs.Worlds.{IsWorld, Worldly}
+use Rattle.world.specs.Worlds.{Worldly}
 
 -- all rows of the routers that aren't direct are Good
 abbrev pub AreFresh : List (Member Living LivingNode) → Type 0
 AreFresh stations = (k : ℕ) (b : Living) (l : ℕ) → At stations k (RouterMember b) → IsFreshAt l b.router.routes
 
-module _ (old new : Worldly) (phase : ℕ) (rest : IsAtRest phase old) (others : AreOther old.plan new.now) (tick : IsTick old new)
+module _ (old new : Worldly) (phase : ℕ) (rest : IsResting phase old) (others : AreOther old.plan new.now) (tick : IsTick old new)
     (Lossless : Type 0) (none : Lossless → (cable : ℕ) → loses_at old.plan new.now cable ≡ false) where
   count : length new.stations ≡ length old.stations
   count = (both old new phase rest others tick Lossless none).0.count
@@ -81,13 +86,17 @@ module _ (old new : Worldly) (phase : ℕ) (rest : IsAtRest phase old) (others :
           let was = node_was old.plan phase old.stations new.stations old.wires.maps new.wires.maps rest.standing count alike k n em in
           still_quiet was.0 n was.2.0 (rest.standing.nodes k (NodeMember was.0) le was.1)
 
-  -- the world is at rest again, if nothing is under way
-  pub rests_again : new.plan ≡ old.plan → IsWorld new → IsStill new → AreFresh new.stations → IsAtRest (phase_after phase) new
-  rests_again same world still fresh =
+  -- the world is as settled as before, if nothing is under way
+  pub rests_again : new.plan ≡ old.plan → pending_on new.wires.cabling ≡ [] → AreSparedFrom (IsNoNextRouter new.stations (plan_seats new.plan)) 0 new.wires.maps
+      → AreFresh new.stations → IsResting (phase_after phase) new
+  rests_again same pending spared fresh =
       let s = stays old new phase rest others tick Lossless none same in
+      let t = (both old new phase rest others tick Lossless none).0 in
       record {
-        world = world;
-        still = still;
+        seats = t.wires.0 ∙ ap plan_seats (sym same);
+        pending = pending;
+        plain = t.wires.1.held;
+        spared = spared;
         standing = subst (λ (p : Planned). AreStanding p (phase_after phase) new.stations) (sym same) (standing fresh);
         passes = s.passes;
         settled = s.settled;

@@ -1,5 +1,5 @@
 -- A tick in which routers send routing data: what they send is pending before frames are taken.
-use Rattle.std.proofs.Common.{◌≡◌, inl, inr, ℕ, zero, suc, ◌+◌, ◌%◌, ◌<◌, ◌≤◌, ◌==◌, true, List, [], ◌∷◌, ◌++◌}
+use Rattle.std.proofs.Common.{◌≡◌, inl, inr, ℕ, zero, suc, ◌+◌, ◌-◌, ◌%◌, ◌<◌, ◌≤◌, ◌==◌, true, List, [], ◌∷◌, ◌++◌}
 use Rattle.std.proofs.Common.{Option, Some, refl, sym, ap, ◌∙◌, subst, length, map, arith, if◌then◌else◌}
 use Rattle.std.specs.Prelude.{option_to_list, slice_set}
 use Rattle.std.specs.List.{AllByRecursion as Each}
@@ -18,10 +18,11 @@ use Rattle.lasting.proofs.Passed.{HasGoodRows, ticks_alike}
 use Rattle.lasting.proofs.Routers.{one_settled, ticks}
 use Rattle.lasting.proofs.Speaking.{IsSaid, calm_below, gives_said, said_step}
 use Rattle.lasting.proofs.Telling.{IsToldOf}
-use Rattle.lasting.proofs.Idling.{IsIdle, all_aged, get_set, get_set_other}
+use Rattle.lasting.proofs.Idling.{AreLaid, AreSparedFrom, all_aged, get_set, get_set_other, router_spared}
 use Rattle.lasting.proofs.Turning.{all_come, all_steps, one_passed, still_lossless}
 use Rattle.lasting.specs.Hears.{data_datagram}
 use Rattle.lasting.specs.Resting.{IsBelow}
+use Rattle.lasting.specs.Settled.{IsNoNextRouter}
 use Rattle.learning.specs.Queries.{queries_of}
 use Rattle.live_cables.proofs.Pending.{Has}
 use Rattle.live_cables.specs.Living.{Wires, happened}
@@ -116,6 +117,7 @@ spoken phase t e o h =
 module _ (i : Internet) (ok : Passes i) (settled : IsSettled i) (bounded : IsBounded i) (seats : List Seat)
     (stations : List (Member Living LivingNode)) (ground : AreGround i seats stations)
     (good : (k : ℕ) (m : Member Living LivingNode) → At stations k m → HasGoodRows m)
+    (laid : AreLaid seats stations)
     (seated : (k : ℕ) (a : Living) → At stations k (RouterMember a) → (q : ℕ) (c : Choice) → At a.router.ports q c
     → (z : Seat) × Has seats z × (z.station ≡ k) × (z.port ≡ q))
     (speaks : (k : ℕ) (a : Living) → At stations k (RouterMember a) → (phase_after a.phase % 50 == 0) ≡ true)
@@ -138,13 +140,16 @@ module _ (i : Internet) (ok : Passes i) (settled : IsSettled i) (bounded : IsBou
   abbrev Good : Wires → Type 0
   Good w = (w.cabling.seats ≡ seats) × IsFineOn (IsToldOf i) (Unit {0}) w.cabling × (Unit {0} → IsLossless (IsToldOf i) (Unit {0}) w)
 
+  abbrev Spared : ℕ → Wires → Type 0
+  Spared seat w = AreSparedFrom (IsNoNextRouter stations seats) seat w.maps
+
   pub record HasSpoken (number : ℕ) (now : List (Member Living LivingNode)) (w : Wires) : Type 0 where
     pub below : IsBelow (happened w)
     pub said : (k : ℕ) (b : Living) → k < number → At now k (RouterMember b) → HasSaid k b w
 
   -- the steps of one station
   one_spoken : (number seat : ℕ) (m after ticked : Member Living LivingNode) (old mid new : Wires) → At stations number m → Good old
-      → IsBelow (happened old) → (number < length i.routers → IsIdle old.maps) → (tick : HasTicked number seat m ticked old mid)
+      → IsBelow (happened old) → (number < length i.routers → (seat ≡ laid.first number) × Spared seat old) → (tick : HasTicked number seat m ticked old mid)
       → AreAged seat (ports_of ticked) ticked after mid new
       → IsFineStep (IsToldOf i) (Unit {0}) old.cabling new.cabling × ((b : Living) → after ≡ RouterMember b → HasSaid number b new)
   one_spoken number seat m after ticked old mid new em wires below idle tick ages =
@@ -166,24 +171,32 @@ module _ (i : Internet) (ok : Passes i) (settled : IsSettled i) (bounded : IsBou
           tick.gives.4.losing wires.2
 
       second : IsFineStep (IsToldOf i) (Unit {0}) mid.cabling new.cabling
-      second = (all_steps i ok settled bounded seats stations ground (Unit {0}) good seat (ports_of ticked) ticked after mid new lossless ages).0
+      second = (all_steps i ok settled bounded seats stations ground (Unit {0}) good laid seat (ports_of ticked) ticked after mid new lossless ages).0
 
       by : (m ticked : Member Living LivingNode) → At stations number m → (tick : HasTicked number seat m ticked old mid)
           → AreAged seat (ports_of ticked) ticked after mid new → (b : Living) → after ≡ RouterMember b → HasSaid number b new
       by (NodeMember n) ticked em tick ages b is =
           let o =
-          one_passed i ok settled bounded seats stations ground (Unit {0}) good number seat (NodeMember n) after old new em wires idle (ticked, mid, tick, ages) in
+          one_passed i ok settled bounded seats stations ground (Unit {0}) good laid number seat (NodeMember n) after old new em wires idle (ticked, mid, tick, ages) in
           absurd (subst (IsLike i number (NodeMember n)) is o.1)
       by (RouterMember a) (NodeMember n) em tick ages b is = absurd tick.ticks
       by (RouterMember a) (RouterMember t) em tick ages b is = λ q c e m p lt sent.
           let g = ground number (RouterMember a) em in
           let alike = ticks_alike i ok seats number (RouterMember a) (RouterMember t) g tick.outputs (good number (RouterMember a) em) tick.ticks in
           let low = at_within i.routers number g.x g.x_at in
-          let still : IsIdle mid.maps = subst IsIdle (sym (gives_same number tick.outputs _ mid alike.2 tick.gives)) (idle low) in
-          let aged = all_aged seat (ports_of (RouterMember t)) (RouterMember t) after mid new still ages in
+          let still : Spared seat mid =
+          subst (AreSparedFrom (IsNoNextRouter stations seats) seat) (sym (gives_same number tick.outputs _ mid alike.2 tick.gives)) (idle low).1 in
+          let w = ticks a t tick.outputs g.settled tick.ticks in
+          let aged =
+          all_aged (IsNoNextRouter stations seats) seat (ports_of (RouterMember t)) (RouterMember t) after mid new still
+          (λ j x le lt none.
+          let at_first = (idle low).0 in
+          let many : length t.router.ports ≡ length a.router.ports = ap length w.ports in
+          let z = laid.own number a (j - seat) em (omega (arith, le, lt, many)) in
+          let here : laid.first number + (j - seat) ≡ j = omega (arith, at_first, le) in
+          router_spared stations seats number a t j z.0 x em (subst (λ n. At seats n z.0) here z.1) z.2 w.routes none) ages in
           let whole : same_member (RouterMember t) (RouterMember b) = sym aged.0 ∙ is in
           let same : t ≡ b = router_is t b whole in
-          let w = ticks a t tick.outputs g.settled tick.ticks in
           let et : At t.router.ports q c = subst (λ (z : Living). At z.router.ports q c) (sym same) e in
           let ea : At a.router.ports q c = subst (λ ps. At ps q c) w.ports et in
           let sent_t : packet_numbered Split q c.range c.tentative m t.router.routes ≡ Some p =
@@ -209,13 +222,13 @@ module _ (i : Internet) (ok : Passes i) (settled : IsSettled i) (bounded : IsBou
           router_is t b e = cc
 
   -- all stations
-  pub all_spoken : (number seat : ℕ) (now : List (Member Living LivingNode)) (old new : Wires) → Good old → IsIdle old.maps → IsBelow (happened old)
+  pub all_spoken : (number seat : ℕ) (now : List (Member Living LivingNode)) (old new : Wires) → Good old → Spared 0 old → IsBelow (happened old)
       → HavePassed number seat stations now old new → HasSpoken number now new
   all_spoken zero seat now old new wires idle below (none, same, stays) =
       record { below = subst (λ (w : Wires). IsBelow (happened w)) (sym stays) below; said = λ k b lt e. absurd (omega (arith, lt)) }
   all_spoken (suc number) next now old new wires idle below (seat, before, mid, passes, m, after, em, (ticked, between, tick, ages), set, at) =
       let h = all_spoken number seat before old mid wires idle below passes in
-      let come = all_come i ok settled bounded seats stations ground (Unit {0}) good number seat before old mid wires idle passes in
+      let come = all_come i ok settled bounded seats stations ground (Unit {0}) good laid number seat before old mid wires idle passes in
       let es : At stations number m = sym (come.later number (omega arith)) ∙ em in
       let o =
       one_spoken number seat m after ticked mid between new es come.through.wires h.below (λ lt. come.idle (omega (arith, lt))) tick ages in

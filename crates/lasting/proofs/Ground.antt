@@ -1,6 +1,6 @@
 -- Stations that have settled are those of their image; and stations that are like them have an image in which no more than
 -- rows and the routers of nodes moved.
-use Rattle.std.proofs.Common.{◌≡◌, ◌⊎◌, inl, inr, ℕ, suc, ◌+◌, ◌-◌, ◌<◌, ◌≤◌, Bool, true, false, not, List, drop, length}
+use Rattle.std.proofs.Common.{◌≡◌, ◌⊎◌, inl, inr, ℕ, suc, ◌+◌, ◌-◌, ◌<◌, ◌≤◌, Bool, true, false, not, List, [], ◌∷◌, drop, length}
 use Rattle.std.proofs.Common.{Option, Some, None, refl, sym, ap, ◌∙◌, subst, slice_get, arith, is_some}
 use Rattle.std.proofs.lemmas.Bool.{cases_lt, not-false, or_parts}
 use Rattle.std.proofs.lemmas.List.{length-map}
@@ -22,7 +22,8 @@ use Rattle.internet_file.specs.declared.node.Node.{Node as PlannedNode}
 use Rattle.internet_file.specs.declared.port.Port.{Port as PlannedPort}
 use Rattle.internet_file.specs.declared.router.Router.{Router as PlannedRouter}
 use Rattle.lasting.proofs.Alike.{AreGround, IsNodeAt, IsRouterAt}
-use Rattle.lasting.proofs.Images.{AreNodes, AreRouters, IsNodeSeat, IsRouterSeat, dropped, mapped, node_at, plan_seat, port_at, port_of, router_at, routers_count}
+use Rattle.lasting.proofs.Images.{AreNodes, AreRouters, IsNodeSeat, IsRouterSeat, dropped, first_next, first_seat, mapped, seat_at, node_at, plan_seat, port_at, port_of, router_at, routers_count}
+use Rattle.lasting.proofs.Idling.{AreLaid}
 use Rattle.lasting.proofs.Routers.{one_settled}
 use Rattle.lasting.specs.Standing.{AreStanding, IsStandingAsNode, IsStandingAsRouter, IsStandingRouter}
 use Rattle.live_node.specs.Living.{LivingNode}
@@ -98,6 +99,37 @@ module _ (plan : Planned) (phase : ℕ) (stations : List (Member Living LivingNo
         | inr le ↦ le
         | inl lt ↦ let r = at_below plan.routers k lt in absurd (standing.routers k r.0 (NodeMember n) r.1 em)
       ]
+
+  -- the seats are laid out router by router
+  pub laid : AreLaid (plan_seats plan) stations
+  laid = record {
+    first = first_seat plan.routers;
+    begins = by plan.routers;
+    next = λ k l e.
+        let r = at_below plan.routers k (router_first k l e) in
+        let same = as_many k r.0 l r.1 e in
+        let next = first_next plan.routers k r.0 r.1 in
+        omega (arith, same, next);
+    own = λ k l q e lt.
+        let r = at_below plan.routers k (router_first k l e) in
+        let same = as_many k r.0 l r.1 e in
+        let p = at_below r.0.port q (omega (arith, same, lt)) in
+        let z = seat_at plan k r.0 q p.0 r.1 p.1 in
+        (z.0, z.1, z.2);
+  }
+    where
+      by : (rs : List PlannedRouter) → first_seat rs 0 ≡ 0
+      by [] = refl
+      by (r ∷ rs) = refl
+
+      as_many : (k : ℕ) (r : PlannedRouter) (l : Living) → At plan.routers k r → At stations k (RouterMember l)
+          → length l.router.ports ≡ length r.port
+      as_many k r l er em =
+          let h : IsStandingRouter plan.cables phase r l = standing.routers k r (RouterMember l) er em in
+          let same = ap length h.ranges in
+          let mine = length-map l.router.ports (λ (c : Choice). c.range) in
+          let its = length-map r.port (λ (p : PlannedPort). range_of (cable_at plan.cables p.cable)) in
+          omega (arith, same, mine, its)
 
   module _ (ok : Passes image) (settled : IsSettled image) (bounded : IsBounded image) where
     -- a row may become itself

@@ -1,5 +1,5 @@
 -- The image of stations that have settled: its routers, its nodes, and their seats.
-use Rattle.std.proofs.Common.{◌≡◌, ◌⊎◌, inl, inr, ℕ, zero, suc, ◌+◌, ◌-◌, ◌≤◌, List, [], ◌∷◌, drop, length, map}
+use Rattle.std.proofs.Common.{◌≡◌, ◌⊎◌, inl, inr, ℕ, zero, suc, ◌+◌, ◌-◌, ◌≤◌, List, [], ◌∷◌, ◌++◌, drop, length, map}
 use Rattle.std.proofs.Common.{Some, None, refl, sym, ap, ◌∙◌, subst, slice_get, arith}
 use Rattle.aarp.specs.Choosing.{Choice}
 use Rattle.aarp.specs.Mapping.{Mappings}
@@ -169,3 +169,85 @@ plan_seat plan s h =
       | inl e ↦ inl (router_seat 0 plan.routers h.0 s e)
       | inr e ↦ inr (node_seat (length plan.routers) plan.nodes e.0 s e.2)
     ]
+
+port_there : (station q : ℕ) (ps : List PlannedPort) (k : ℕ) (p : PlannedPort) → At ps k p
+    → (z : Seat) × At (port_seats station q ps) k z × (z.station ≡ station) × (z.port ≡ q + k)
+port_there station q [] k p e = cc
+port_there station q (x ∷ ps) zero p e =
+    let none : q ≡ q + 0 = omega arith in
+    (record { cable = x.cable - 1; station = station; port = q; hw = x.hardware; group = None }, refl, refl, none)
+port_there station q (x ∷ ps) (suc k) p e =
+    let w = port_there station (q + 1) ps k p e in
+    let next : (q + 1) + k ≡ q + suc k = omega arith in
+    (w.0, w.1, w.2, w.3 ∙ next)
+
+port_count : (station q : ℕ) (ps : List PlannedPort) → length (port_seats station q ps) ≡ length ps
+port_count station q [] = refl
+port_count station q (p ∷ ps) = ap suc (port_count station (q + 1) ps)
+
+at_first : {X : Type 0} (xs ys : List X) (k : ℕ) (x : X) → At xs k x → At (xs ++ ys) k x
+at_first [] ys k x e = cc
+at_first (y ∷ xs) ys zero x e = e
+at_first (y ∷ xs) ys (suc k) x e = at_first xs ys k x e
+
+at_second : {X : Type 0} (xs ys : List X) (n k : ℕ) (x : X) → n ≡ length xs + k → At ys k x → At (xs ++ ys) n x
+at_second [] ys n k x is e = let same : n ≡ k = omega (arith, is) in subst (λ j. At ys j x) (sym same) e
+at_second (y ∷ xs) ys zero k x is e = absurd (omega (arith, is))
+at_second (y ∷ xs) ys (suc n) k x is e = at_second xs ys n k x (omega (arith, is)) e
+
+-- the first seat of a planned router, by the ports of those before it
+abbrev pub first_seat : List PlannedRouter → ℕ → ℕ
+first_seat [] k = 0
+first_seat (r ∷ rs) zero = 0
+first_seat (r ∷ rs) (suc k) = length r.port + first_seat rs k
+
+pub first_next : (rs : List PlannedRouter) (k : ℕ) (r : PlannedRouter) → At rs k r → first_seat rs (suc k) ≡ first_seat rs k + length r.port
+first_next [] k r e = cc
+first_next (x ∷ rs) zero r e =
+    let is : x ≡ r = cc in
+    let same = ap (λ (z : PlannedRouter). length z.port) is in
+    let none : first_seat rs zero ≡ 0 = by rs in
+    omega (arith, same, none)
+  where
+    by : (rs : List PlannedRouter) → first_seat rs zero ≡ 0
+    by [] = refl
+    by (y ∷ ys) = refl
+first_next (x ∷ rs) (suc k) r e = let h = first_next rs k r e in omega (arith, h)
+
+router_there : (first : ℕ) (rs : List PlannedRouter) (k : ℕ) (r : PlannedRouter) (q : ℕ) (p : PlannedPort) → At rs k r → At r.port q p
+    → (z : Seat) × At (router_seats first rs) (first_seat rs k + q) z × (z.station ≡ first + k) × (z.port ≡ q)
+router_there first [] k r q p er ep = cc
+router_there first (x ∷ rs) zero r q p er ep =
+    let is : x ≡ r = cc in
+    let w = port_there first 0 x.port q p (subst (λ (z : PlannedRouter). At z.port q p) (sym is) ep) in
+    let none : first ≡ first + 0 = omega arith in
+    let same : 0 + q ≡ q = omega arith in (
+      w.0,
+      at_first (port_seats first 0 x.port) (router_seats (first + 1) rs) (0 + q) w.0
+          (subst (λ n. At (port_seats first 0 x.port) n w.0) (sym same) w.1),
+      w.2 ∙ none,
+      w.3 ∙ same,
+    )
+router_there first (x ∷ rs) (suc k) r q p er ep =
+    let w = router_there (first + 1) rs k r q p er ep in
+    let next : (first + 1) + k ≡ first + suc k = omega arith in
+    let many = port_count first 0 x.port in (
+      w.0,
+      at_second (port_seats first 0 x.port) (router_seats (first + 1) rs) ((length x.port + first_seat rs k) + q) (first_seat rs k + q) w.0
+          (omega (arith, many)) w.1,
+      w.2 ∙ next,
+      w.3,
+    )
+
+-- each port of a planned router has its seat
+pub seat_at : (plan : Planned) (k : ℕ) (r : PlannedRouter) (q : ℕ) (p : PlannedPort) → At plan.routers k r → At r.port q p
+    → (z : Seat) × At (plan_seats plan) (first_seat plan.routers k + q) z × (z.station ≡ k) × (z.port ≡ q)
+seat_at plan k r q p er ep =
+    let w = router_there 0 plan.routers k r q p er ep in
+    let none : 0 + k ≡ k = omega arith in
+    let nodes = node_seats (length plan.routers) plan.nodes in
+    (w.0, at_first (router_seats 0 plan.routers) nodes (first_seat plan.routers k + q) w.0 w.1, w.2 ∙ none, w.3)
+
+pub seat_of : (plan : Planned) (k : ℕ) (r : PlannedRouter) (q : ℕ) (p : PlannedPort) → At plan.routers k r → At r.port q p
+    → (z : Seat) × Has (plan_seats plan) z × (z.station ≡ k) × (z.port ≡ q)
+seat_of plan k r q p er ep = let w = seat_at plan k r q p er ep in (w.0, (first_seat plan.routers k + q, w.1), w.2, w.3)

@@ -130,8 +130,8 @@ heard_same : (p : Packet) (c : Choice) → c.is_settled ≡ true → port_heard 
 heard_same p c e = rw e refl
 
 -- the parts of a node that stay
-record Stays (h now : NodeHolding) : Type 0 where
-  port : now.port ≡ h.port
+pub record Stays (h now : NodeHolding) : Type 0 where
+  pub port : now.port ≡ h.port
   zone : now.zone ≡ h.zone
   names : now.names ≡ h.names
   router : now.router ≡ h.router
@@ -155,7 +155,7 @@ kind_stays : (h : NodeHolding) (x : Hearing) (k : Kind) → h.port.is_settled �
 kind_stays h x Ddp e = datagram_stays h x.link (datagram_at x.bytes)
 kind_stays h x Aarp e = packet_stays h (packet_at x.bytes) e
 
-answers_stay : (h now : NodeHolding) (x : Hearing) (added : List Output) → h.port.is_settled ≡ true → Hears h x added now → Stays h now
+pub answers_stay : (h now : NodeHolding) (x : Hearing) (added : List Output) → h.port.is_settled ≡ true → Hears h x added now → Stays h now
 answers_stay h now x added e g =
     let w : Stays h (record now { asks = h.asks }) =
     subst (Stays h) (sym (ap (λ (r : List Output × NodeHolding). r.1) g.0)) (kind_stays h x x.kind e) in
@@ -195,7 +195,7 @@ node_heard old new x added q p h =
 
 -- ---- A tick
 
-tick_same : (c : Choice) → c.is_settled ≡ true → ((ticked c).0 ≡ c) × ((ticked c).1 ≡ None)
+pub tick_same : (c : Choice) → c.is_settled ≡ true → ((ticked c).0 ≡ c) × ((ticked c).1 ≡ None)
 tick_same c e = (rw e refl, rw e refl)
 
 asks_none : (own : Option Addr) (l : LivingNode) → asks_on l ≡ false → asks own l ≡ false

@@ -9,9 +9,8 @@ use Rattle.aarp.specs.Mapping.{Mappings}
 use Rattle.at_base.specs.Range.{Span}
 use Rattle.at_base.specs.Spelling.{bytes_of, list_bytes}
 use Rattle.at_base.specs.declared.address.Addr.{Addr}
-use Rattle.audit.proofs.WalkLists.{At, at_below, at_one, at_within}
-use Rattle.cable_model.proofs.Counting.{contained_at}
-use Rattle.cable_model.specs.Logs.{transcript}
+use Rattle.audit.proofs.WalkLists.{At, at_below, at_map, at_one, at_within}
+use Rattle.cable_model.specs.Logs.{pending_on, transcript}
 use Rattle.cable_model.specs.Pending.{pending}
 use Rattle.cable_model.specs.Transcript.{Entry}
 use Rattle.cable_model.specs.declared.seat.Seat.{Seat}
@@ -19,20 +18,24 @@ use Rattle.ddp.proofs.Shape.{bytes_laid}
 use Rattle.ddp.specs.Datagram.{datagram}
 use Rattle.freeze.specs.Freezing.{frozen_ports, frozen_router}
 use Rattle.freeze.specs.Frozen.{cables_by}
+use Rattle.internet_file.specs.Stations.{cable_at}
+use Rattle.internet_file.specs.declared.port.Port.{Port as PlannedPort}
 use Rattle.internet_file.specs.declared.router.Router.{Router as PlannedRouter}
 use Rattle.lasting.proofs.Again.{AreFresh, stood}
 use Rattle.lasting.proofs.Ageing.{all_spoken}
 use Rattle.lasting.proofs.Brightening.{bright}
 use Rattle.lasting.proofs.Given.{IsFineOn, IsLossless}
-use Rattle.lasting.proofs.Ground.{grounded, image_count, image_router, router_first}
+use Rattle.lasting.proofs.Ground.{grounded, image_count, image_router, laid, router_first}
+use Rattle.lasting.proofs.Images.{mapped, seat_of}
 use Rattle.lasting.proofs.Promising.{AreBright, IsPromise, all_fresh, all_kept}
 use Rattle.lasting.proofs.Refreshing.{IsFreshAt}
+use Rattle.lasting.proofs.Rested.{IsResting}
 use Rattle.lasting.proofs.Staying.{calm_stays}
 use Rattle.lasting.proofs.Telling.{IsToldOf}
 use Rattle.lasting.proofs.Ticking.{fine, good}
 use Rattle.lasting.proofs.Turning.{all_done, all_passed}
 use Rattle.lasting.specs.Hears.{data_datagram}
-use Rattle.lasting.specs.Resting.{AreOther, IsAtRest, IsNumbered, IsStill}
+use Rattle.lasting.specs.Resting.{AreOther, IsNumbered}
 use Rattle.lasting.specs.Standing.{IsStandingAsRouter, IsStandingRouter}
 use Rattle.live_cables.proofs.Pending.{Has}
 use Rattle.live_cables.specs.Living.{Wires, happened}
@@ -40,6 +43,7 @@ use Rattle.live_cables.specs.Steps.{are_calm}
 use Rattle.live_node.specs.Living.{LivingNode}
 use Rattle.live_router.specs.Living.{Living}
 use Rattle.live_router.specs.Ticking.{phase_after}
+use Rattle.planned_stations.specs.Beginning.{range_of}
 use Rattle.planned_stations.specs.Seating.{plan_seats}
 use Rattle.rtmp.specs.Data.{RoutingData, data_of, routing_data, written_of, written_tuple}
 use Rattle.rtmp.specs.Sending.{own_tuple, packet_numbered, rows_sent, sent_tuple}
@@ -108,19 +112,21 @@ port_back (x ∷ cables) [] maps n p e = cc
 port_back (x ∷ cables) (c ∷ ports) maps zero p e = (c, refl)
 port_back (x ∷ cables) (c ∷ ports) maps (suc n) p e = port_back cables ports (drop 1 maps) n p e
 
-module _ (old new : Worldly) (phase : ℕ) (rest : IsAtRest phase old) (others : AreOther old.plan new.now) (tick : IsTick old new)
+module _ (old new : Worldly) (phase : ℕ) (rest : IsResting phase old) (others : AreOther old.plan new.now) (tick : IsTick old new)
     (none : (cable : ℕ) → loses_at old.plan new.now cable ≡ false) (speaking : (phase_after phase % 50 == 0) ≡ true) (before : IsNumbered old)
-    (after : IsNumbered new) (still : IsStill new) where
-  seated : (k : ℕ) (a : Living) → At old.stations k (RouterMember a) → (q : ℕ) (c : Choice) → At a.router.ports q c
-      → (z : Seat) × Has (plan_seats old.plan) z × (z.station ≡ k) × (z.port ≡ q)
-  seated k a ea q c ec =
-      let w = (rest.world.seated k (RouterMember a) ea).seated q (at_within a.router.ports q c ec) in
-      (w.0, subst (λ s. Has s w.0) rest.world.seats (contained_at old.wires.cabling.seats w.0 w.1), w.2, w.3)
-
+    (after : IsNumbered new) (empty : pending_on new.wires.cabling ≡ []) where
   stands : (k : ℕ) (a : Living) → At old.stations k (RouterMember a) → (r : PlannedRouter) × At old.plan.routers k r × IsStandingRouter old.plan.cables phase r a
   stands k a ea =
       let r = at_below old.plan.routers k (router_first old.plan phase old.stations old.wires.maps rest.standing k a ea) in
       (r.0, r.1, rest.standing.routers k r.0 (RouterMember a) r.1 ea)
+
+  seated : (k : ℕ) (a : Living) → At old.stations k (RouterMember a) → (q : ℕ) (c : Choice) → At a.router.ports q c
+      → (z : Seat) × Has (plan_seats old.plan) z × (z.station ≡ k) × (z.port ≡ q)
+  seated k a ea q c ec =
+      let h = stands k a ea in
+      let p = at_map (λ (p : PlannedPort). range_of (cable_at old.plan.cables p.cable)) h.0.port q c.range
+      (subst (λ l. At l q c.range) h.2.ranges (mapped (λ (c : Choice). c.range) a.router.ports q c ec)) in
+      seat_of old.plan k h.0 q p.0 h.1 p.1
 
   speaks : (k : ℕ) (a : Living) → At old.stations k (RouterMember a) → (phase_after a.phase % 50 == 0) ≡ true
   speaks k a ea =
@@ -158,18 +164,19 @@ module _ (old new : Worldly) (phase : ℕ) (rest : IsAtRest phase old) (others :
       let seats = plan_seats old.plan in
       let lossless : Unit {0} → (cable : ℕ) → loses_at old.plan new.now cable ≡ false = λ u. none in
       let rows = good old new phase rest others tick (Unit {0}) lossless in
+      let by_seats = laid old.plan phase old.stations old.wires.maps rest.standing in
       let p = tick.plays in
       let b0 = p.begins in
       let start : Wires = record old.wires { losing = tick.losing } in
       let wires : (start.cabling.seats ≡ seats) × IsFineOn (IsToldOf i) (Unit {0}) start.cabling × (Unit {0} → IsLossless (IsToldOf i) (Unit {0}) start) =
-      (rest.world.seats, fine old new phase rest others tick (Unit {0}) lossless, λ (u : Unit {0}) (cable : ℕ). tick.loses cable ∙ none cable) in
+      (rest.seats, fine old new phase rest others tick (Unit {0}) lossless, λ (u : Unit {0}) (cable : ℕ). tick.loses cable ∙ none cable) in
       let first =
-      all_passed i rest.passes rest.settled rest.bounded seats old.stations ground (Unit {0}) rows (length old.stations) b0.seats p.passed start b0.wires wires
-      rest.still.idle b0.passes (omega arith) in
+      all_passed i rest.passes rest.settled rest.bounded seats old.stations ground (Unit {0}) rows by_seats (length old.stations) b0.seats p.passed start b0.wires wires
+      rest.spared b0.passes (omega arith) in
       let spoken =
-      all_spoken i rest.passes rest.settled rest.bounded seats old.stations ground rows seated speaks
+      all_spoken i rest.passes rest.settled rest.bounded seats old.stations ground rows by_seats seated speaks
       (λ k a b ea q c e m p sent. short q c.range c.tentative m b.router.routes p sent) (length old.stations) b0.seats p.passed start b0.wires wires
-      rest.still.idle before.below b0.passes in
+      rest.spared before.below b0.passes in
       let many = first.0.count in
       let one =
       bright i rest.passes rest.settled rest.bounded seats old.stations ground seated router_there choice_there p.passed b0.wires first.0
@@ -189,7 +196,7 @@ module _ (old new : Worldly) (phase : ℕ) (rest : IsAtRest phase old) (others :
       let low = at_within b.router.routes l c ec in
       let same = (was.2.1 g.x g.x_at).count in
       let x = at_below g.x.rows l (omega (arith, low, same)) in
-      all_fresh i rest.passes rest.settled rest.bounded seats old.stations ground new.stations new.wires still.pending three k was.0 b was.1 eb l x.0 x.1 c ec
+      all_fresh i rest.passes rest.settled rest.bounded seats old.stations ground new.stations new.wires empty three k was.0 b was.1 eb l x.0 x.1 c ec
     where
       later : (v w : Wires) (es : List Entry) → happened w ≡ happened v ++ es → w.cabling.seats ≡ v.cabling.seats → are_calm (happened v) es ≡ true
           → (P : Type 0) (k : ℕ) (x : Row) → P ⊎ IsPromise (frozen_as V1 old) v k x → P ⊎ IsPromise (frozen_as V1 old) w k x

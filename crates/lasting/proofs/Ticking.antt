@@ -1,22 +1,21 @@
--- A tick of a world at rest.
+-- A tick of a world that has settled.
 use Rattle.std.proofs.Common.{◌≡◌, ℕ, Some, sym, ap, ◌∙◌, subst, slice_get, length, is_some, arith, false}
 use Rattle.audit.specs.Rules.{Passes}
-use Rattle.cable_model.specs.Holdings.{still_held}
 use Rattle.cable_model.specs.Logs.{pending_on}
 use Rattle.cable_model.specs.Pending.{Pair}
-use Rattle.cable_model.specs.Transcript.{Holding}
 use Rattle.lasting.proofs.Bounded.{still_bounded}
 use Rattle.lasting.proofs.Given.{IsFineOn}
-use Rattle.lasting.proofs.Ground.{grounded}
+use Rattle.lasting.proofs.Ground.{grounded, laid}
 use Rattle.lasting.proofs.Likeness.{image_moved, nodes_as_many, nodes_served}
 use Rattle.lasting.proofs.Passed.{HasGoodRows}
+use Rattle.lasting.proofs.Rested.{IsResting}
 use Rattle.lasting.proofs.Served.{served_passes}
 use Rattle.lasting.proofs.Telling.{IsToldOf}
 use Rattle.lasting.proofs.Turning.{AreTicked, IsThrough, all_done, all_passed, all_taken}
-use Rattle.lasting.specs.Resting.{AreOther, IsAtRest, KeepsDistances, StaysSettled}
+use Rattle.lasting.specs.Resting.{AreOther, KeepsDistances, StaysSettled}
 use Rattle.lasting.specs.Standing.{IsStandingRouter}
 use Rattle.live_cables.proofs.Pending.{Has}
-use Rattle.live_cables.specs.Living.{Wires, happened}
+use Rattle.live_cables.specs.Living.{Wires}
 use Rattle.live_node.specs.Living.{LivingNode}
 use Rattle.live_router.specs.Living.{Living}
 use Rattle.planned_stations.specs.Seating.{plan_seats}
@@ -37,7 +36,7 @@ use Rattle.world.specs.Losing.{loses_at}
 use Rattle.world.specs.Ticking.{IsTick}
 use Rattle.world.specs.Worlds.{Worldly}
 
-module _ (old new : Worldly) (phase : ℕ) (rest : IsAtRest phase old) (others : AreOther old.plan new.now) (tick : IsTick old new)
+module _ (old new : Worldly) (phase : ℕ) (rest : IsResting phase old) (others : AreOther old.plan new.now) (tick : IsTick old new)
     (Lossless : Type 0) (none : Lossless → (cable : ℕ) → loses_at old.plan new.now cable ≡ false) where
   i : Internet
   i = frozen_as V1 old
@@ -54,13 +53,10 @@ module _ (old new : Worldly) (phase : ℕ) (rest : IsAtRest phase old) (others :
       h.good
 
   no_pair : (p : Pair) → Has (pending_on old.wires.cabling) p → ⊥
-  no_pair p h = let e = subst (λ l. slice_get l h.0 ≡ Some p) rest.still.pending h.1 in cc
-
-  no_holding : (d : Holding) → Has (still_held (happened old.wires)) d → ⊥
-  no_holding d h = let e = subst (λ l. slice_get l h.0 ≡ Some d) rest.still.held h.1 in cc
+  no_pair p h = let e = subst (λ l. slice_get l h.0 ≡ Some p) rest.pending h.1 in cc
 
   pub fine : IsFineOn (IsToldOf (frozen_as V1 old)) Lossless old.wires.cabling
-  fine = record { pending = λ p h. absurd (no_pair p h); held = λ d h. absurd (no_holding d h) }
+  fine = record { pending = λ p h. absurd (no_pair p h); held = rest.plain }
 
   -- the stations after the tick are like those before it
   pub both : IsThrough (frozen_as V1 old) rest.passes rest.settled rest.bounded (plan_seats old.plan) old.stations
@@ -72,9 +68,9 @@ module _ (old new : Worldly) (phase : ℕ) (rest : IsAtRest phase old) (others :
       let p = tick.plays in
       let b = p.begins in
       let first =
-      all_passed (frozen_as V1 old) rest.passes rest.settled rest.bounded (plan_seats old.plan) old.stations ground Lossless good (length old.stations) b.seats
+      all_passed (frozen_as V1 old) rest.passes rest.settled rest.bounded (plan_seats old.plan) old.stations ground Lossless good (laid old.plan phase old.stations old.wires.maps rest.standing) (length old.stations) b.seats
       p.passed (record old.wires { losing = tick.losing }) b.wires
-      (rest.world.seats, fine, λ l cable. tick.loses cable ∙ none l cable) rest.still.idle b.passes (omega arith) in
+      (rest.seats, fine, λ l cable. tick.loses cable ∙ none l cable) rest.spared b.passes (omega arith) in
       let second =
       all_done (frozen_as V1 old) rest.passes rest.settled rest.bounded (plan_seats old.plan) old.stations ground Lossless old.plan new.now others b.actions
       p.passed old.schedule new.schedule (b.wires, old.refused) (p.acted, new.refused) first.0.wires b.does in

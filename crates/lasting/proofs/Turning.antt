@@ -1,5 +1,5 @@
 -- The steps of a tick, one after the other, in a world whose image passes and is settled.
-use Rattle.std.proofs.Common.{◌≡◌, inl, inr, ℕ, zero, suc, ◌+◌, ◌<◌, ◌≤◌, Bool, true, false, List, [], ◌∷◌, ◌++◌}
+use Rattle.std.proofs.Common.{◌≡◌, inl, inr, ℕ, zero, suc, ◌+◌, ◌-◌, ◌<◌, ◌≤◌, Bool, true, false, List, [], ◌∷◌, ◌++◌}
 use Rattle.std.proofs.Common.{Option, Some, None, Result, Ok, Err, refl, sym, ap, ◌∙◌, subst, slice_get, length, arith}
 use Rattle.std.specs.Prelude.{Contains, cond, nat_lt, option_map, slice_set}
 use Rattle.std.specs.List.{AllByRecursion as Each}
@@ -28,19 +28,23 @@ use Rattle.internet_file.specs.declared.action.Do.{Do}
 use Rattle.internet_file.specs.declared.action.Do.TheVariants.{Send, Lookup}
 use Rattle.lasting.proofs.Alike.{AreGround, IsLike, IsStationAt, hears_alike, node_like, router_like, seat_hears}
 use Rattle.lasting.proofs.Given.{IsFineOn, IsFineStep, IsLossless, MayPut, fine_taken, fine_then, gives_same, gives_step, passes_step, step_same, step_then, takes_step}
-use Rattle.lasting.proofs.Idling.{get_set, get_set_other, IsIdle, all_aged, node_aged}
+use Rattle.lasting.proofs.Idling.{AreLaid, AreSparedFrom, all_aged, get_set, get_set_other, node_aged, router_spared}
 use Rattle.lasting.proofs.Passed.{AreToAll, HasGoodRows, HasTickedTo, plain_all, ticked_then, ticks_alike}
 use Rattle.lasting.proofs.Plainly.{made_plain, two}
 use Rattle.lasting.proofs.Telling.{IsToldOf}
+use Rattle.lasting.proofs.Routers.{ticks}
+use Rattle.lasting.specs.Settled.{IsNoNextRouter}
 use Rattle.lasting.specs.Plain.{IsOtherDo, IsPlainKind, IsPlainOutput}
 use Rattle.live_cables.proofs.Pending.{Has}
 use Rattle.live_cables.specs.Living.{GivesOut, Wires}
 use Rattle.live_cables.specs.Steps.{loses_by}
 use Rattle.live_node.specs.Living.{LivingNode, LiveHears as NodeHears}
+use Rattle.live_node.specs.Ticking.{LiveTicks as NodeTicks}
 use Rattle.live_router.specs.Living.{Living, LiveHears as RouterHears}
+use Rattle.live_router.specs.Ticking.{LiveTicks as RouterTicks}
 use Rattle.planned_stations.specs.Planning.{ports_of}
 use Rattle.settled.specs.Settling.{IsSettled}
-use Rattle.station.specs.Members.{EitherHears}
+use Rattle.station.specs.Members.{EitherHears, EitherTicks}
 use Rattle.station.specs.declared.member.Member.{Member}
 use Rattle.station.specs.declared.member.Member.TheVariants.{Router as RouterMember, Node as NodeMember}
 use Rattle.station.specs.declared.output.Next.{Next}
@@ -57,6 +61,10 @@ use Rattle.world.specs.Taking.{AreTaken, IsTaken}
 
 module _ (i : Internet) (ok : Passes i) (settled : IsSettled i) (bounded : IsBounded i) (seats : List Seat)
     (stations : List (Member Living LivingNode)) (ground : AreGround i seats stations) (Lossless : Type 0) where
+  -- what the seats from this one on give up is for no next router of these stations
+  abbrev pub AreSpared : ℕ → Wires → Type 0
+  AreSpared seat w = AreSparedFrom (IsNoNextRouter stations seats) seat w.maps
+
   abbrev IsGoodWires : Wires → Type 0
   IsGoodWires w = (w.cabling.seats ≡ seats) × IsFineOn (IsToldOf i) Lossless w.cabling × (Lossless → IsLossless (IsToldOf i) Lossless w)
 
@@ -102,12 +110,13 @@ module _ (i : Internet) (ok : Passes i) (settled : IsSettled i) (bounded : IsBou
 
   -- ---- All stations pass a tick
 
-  module _ (good : (k : ℕ) (m : Member Living LivingNode) → At stations k m → HasGoodRows m) where
-    -- The first stations have passed a tick, and the others are as they were; nothing is held as long as only routers passed.
-    pub record HasCome (number : ℕ) (now : List (Member Living LivingNode)) (w : Wires) : Type 0 where
+  module _ (good : (k : ℕ) (m : Member Living LivingNode) → At stations k m → HasGoodRows m) (laid : AreLaid seats stations) where
+    -- The first stations have passed a tick, and the others are as they were; what their seats give up is for no next
+    -- router as long as only routers passed.
+    pub record HasCome (number seat : ℕ) (now : List (Member Living LivingNode)) (w : Wires) : Type 0 where
       pub through : IsThrough now w
       pub later : (k : ℕ) → number ≤ k → slice_get now k ≡ slice_get stations k
-      pub idle : number ≤ length i.routers → IsIdle w.maps
+      pub idle : number ≤ length i.routers → (seat ≡ laid.first number) × AreSpared seat w
       pub ticked : (k : ℕ) (a b : Member Living LivingNode) → k < number → At stations k a → At now k b → HasTickedTo a b
 
     -- the mappings of a station's seats pass a tick
@@ -122,10 +131,13 @@ module _ (i : Internet) (ok : Passes i) (settled : IsSettled i) (bounded : IsBou
           last.passes.6.losing ∙ w.1,
         )
 
+    abbrev IsSparedAfter : ℕ → ℕ → Wires → Type 0
+    IsSparedAfter number seat w = (seat ≡ laid.first (suc number)) × AreSpared seat w
+
     -- a station passes a tick: the cables are as good as before, and it is like before
     pub one_passed : (number seat : ℕ) (m after : Member Living LivingNode) (old new : Wires) → At stations number m → IsGoodWires old
-        → (number < length i.routers → IsIdle old.maps) → HasPassed number seat m after old new
-        → IsGoodWires new × IsLike i number m after × (number < length i.routers → IsIdle new.maps) × HasTickedTo m after
+        → (number < length i.routers → (seat ≡ laid.first number) × AreSpared seat old) → HasPassed number seat m after old new
+        → IsGoodWires new × IsLike i number m after × (number < length i.routers → IsSparedAfter number (seat + ports_of after) new) × HasTickedTo m after
     one_passed number seat m after old new em wires idle (ticked, mid, tick, ages) =
         let t = ticks_alike i ok seats number m ticked (ground number m em) tick.outputs (good number m em) tick.ticks in
         let before : Wires = record old { own = settled_own ticked seat (ports_of ticked) old.own } in
@@ -133,30 +145,42 @@ module _ (i : Internet) (ok : Passes i) (settled : IsSettled i) (bounded : IsBou
         good_step before mid tick.gives.4.losing wires
         (gives_step (IsToldOf i) Lossless number tick.outputs before mid wires.2
         (subst (λ s. Each (MayPut (IsToldOf i) s number) tick.outputs) (sym wires.0) t.0) tick.gives) in
-        let f = finish m ticked (ground number m em) t.1 t.2 ages in
+        let f = finish m ticked em (ground number m em) t.1 t.2 tick.ticks ages in
         let s = all_steps seat (ports_of ticked) ticked after mid new first.2 ages in
         (good_step mid new s.1 first s.0, subst (IsLike i number m) (sym f.0) t.1, f.1, subst (HasTickedTo m) (sym f.0) t.3)
       where
-        finish : (m ticked : Member Living LivingNode) → IsStationAt i seats number m → IsLike i number m ticked → AreToAll m tick.outputs
-            → AreAged seat (ports_of ticked) ticked after mid new → (after ≡ ticked) × (number < length i.routers → IsIdle new.maps)
-        finish (RouterMember a) (RouterMember b) g like all h =
+        finish : (m ticked : Member Living LivingNode) → At stations number m → IsStationAt i seats number m → IsLike i number m ticked
+            → AreToAll m tick.outputs → EitherTicks RouterTicks NodeTicks m tick.outputs ticked → AreAged seat (ports_of ticked) ticked after mid new
+            → (after ≡ ticked) × (number < length i.routers → IsSparedAfter number (seat + ports_of after) new)
+        finish (RouterMember a) (RouterMember b) em g like all h ages =
             let low = at_within i.routers number g.x g.x_at in
-            let still : IsIdle mid.maps = subst IsIdle (sym (gives_same number tick.outputs _ mid all tick.gives)) (idle low) in
-            let w = all_aged seat (ports_of (RouterMember b)) (RouterMember b) after mid new still h in
-            (w.0, λ lt. w.1)
-        finish (NodeMember a) (NodeMember b) g like all h =
+            let still : AreSpared seat mid =
+            subst (AreSparedFrom (IsNoNextRouter stations seats) seat) (sym (gives_same number tick.outputs _ mid all tick.gives)) (idle low).1 in
+            let routes = (ticks a b tick.outputs g.settled h).routes in
+            let at_first = (idle low).0 in
+            let many : length b.router.ports ≡ length a.router.ports = ap length like.0.ports in
+            let w =
+            all_aged (IsNoNextRouter stations seats) seat (ports_of (RouterMember b)) (RouterMember b) after mid new still
+            (λ j x le lt none.
+            let s = laid.own number a (j - seat) em (omega (arith, le, lt, many)) in
+            let here : laid.first number + (j - seat) ≡ j = omega (arith, at_first, le) in
+            router_spared stations seats number a b j s.0 x em (subst (λ n. At seats n s.0) here s.1) s.2 routes none) ages in
+            let after_first : seat + ports_of (RouterMember b) ≡ laid.first (suc number) =
+            let next = laid.next number a em in omega (arith, next, at_first, many) in
+            (w.0, λ lt. subst (λ (z : Member Living LivingNode). IsSparedAfter number (seat + ports_of z) new) (sym w.0) (after_first, w.1))
+        finish (NodeMember a) (NodeMember b) em g like all h ages =
             let number = g.number in
-            (node_aged seat 1 b after mid new h, λ lt. absurd (omega (arith, lt, number)))
-        finish (RouterMember a) (NodeMember b) g like all h = absurd like
-        finish (NodeMember a) (RouterMember b) g like all h = absurd like
+            (node_aged seat 1 b after mid new ages, λ lt. absurd (omega (arith, lt, number)))
+        finish (RouterMember a) (NodeMember b) em g like all h ages = absurd like
+        finish (NodeMember a) (RouterMember b) em g like all h ages = absurd like
 
     self_like : (k : ℕ) (m : Member Living LivingNode) → IsStationAt i seats k m → IsLike i k m m
     self_like k (RouterMember a) g = router_like i seats k a a g (record { ports = refl; zones = refl }) g.rows
     self_like k (NodeMember a) g =
         node_like i seats k a a g (record { port = refl; zone = refl; names = refl; asked = refl; answered = refl }) g.served
 
-    pub all_come : (number seat : ℕ) (now : List (Member Living LivingNode)) (old new : Wires) → IsGoodWires old → IsIdle old.maps
-        → HavePassed number seat stations now old new → HasCome number now new
+    pub all_come : (number seat : ℕ) (now : List (Member Living LivingNode)) (old new : Wires) → IsGoodWires old → AreSpared 0 old
+        → HavePassed number seat stations now old new → HasCome number seat now new
     all_come zero seat now old new wires idle (first, same, stays) =
         record {
           through =
@@ -168,7 +192,7 @@ module _ (i : Internet) (ok : Passes i) (settled : IsSettled i) (bounded : IsBou
                     subst (IsLike i k a) is (self_like k a (ground k a ea));
               };
           later = λ k le. ap (λ l. slice_get l k) same;
-          idle = λ le. subst (λ (w : Wires). IsIdle w.maps) (sym stays) idle;
+          idle = λ le. (first ∙ sym laid.begins, subst (AreSpared seat) (sym stays) (subst (λ n. AreSpared n old) (sym first) idle));
           ticked = λ k a b lt ea eb. absurd (omega (arith, lt));
         }
     all_come (suc number) next now old new wires idle (seat, before, mid, passes, m, after, em, passed, set, at) =
@@ -188,7 +212,7 @@ module _ (i : Internet) (ok : Passes i) (settled : IsSettled i) (bounded : IsBou
           later = λ k le.
               ap (λ l. slice_get l k) set
               ∙ (get_set_other before number k after (λ s. absurd (omega (arith, s, le))) ∙ h.later k (omega (arith, le)));
-          idle = λ le. o.2 (omega (arith, le));
+          idle = λ le. subst (λ n. IsSparedAfter number n new) (sym at) (o.2 (omega (arith, le)));
           ticked = λ k a b lt ea eb.
               elim (cases_eq k number) [
                 | inl here ↦
@@ -203,7 +227,7 @@ module _ (i : Internet) (ok : Passes i) (settled : IsSettled i) (bounded : IsBou
         }
 
     -- all stations pass a tick
-    pub all_passed : (number seat : ℕ) (now : List (Member Living LivingNode)) (old new : Wires) → IsGoodWires old → IsIdle old.maps
+    pub all_passed : (number seat : ℕ) (now : List (Member Living LivingNode)) (old new : Wires) → IsGoodWires old → AreSpared 0 old
         → HavePassed number seat stations now old new → length stations ≤ number → IsThrough now new × AreTicked now
     all_passed number seat now old new wires idle h enough =
         let w = all_come number seat now old new wires idle h in

@@ -120,7 +120,3 @@ pub record IsNumbered (w : Worldly) : Type 0 where
 -- no cable loses frames after this tick
 abbrev pub LosesNothingAfter : Planned → ℕ → Type 0
 LosesNothingAfter plan now = (tick cable : ℕ) → now < tick → loses_at plan tick cable ≡ false
-
--- the frames of each of these worlds are numbered
-abbrev pub AreNumbered : List Worldly → Type 0
-AreNumbered ws = Each IsNumbered ws

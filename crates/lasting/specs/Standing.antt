@@ -53,3 +53,11 @@ pub record AreStanding (plan : Planned) (phase : ℕ) (stations : List (Member L
       → IsStandingAsRouter plan.cables phase r m
   pub nodes : (k : ℕ) (m : Member Living LivingNode) → length plan.routers ≤ k → slice_get stations k ≡ Some m → IsStandingAsNode m
   pub as_many : length stations ≡ length plan.routers + length plan.nodes
+
+-- each node has settled on its address
+abbrev pub HaveAddresses : List (Member Living LivingNode) → Type 0
+HaveAddresses stations = (k : ℕ) (n : LivingNode) → slice_get stations k ≡ Some (member.Node n) → n.node.port.is_settled ≡ true
+
+-- no node asks about its cable any more
+abbrev pub AskNoMore : List (Member Living LivingNode) → Type 0
+AskNoMore stations = (k : ℕ) (n : LivingNode) → slice_get stations k ≡ Some (member.Node n) → asks_on n ≡ false

@@ -1,6 +1,6 @@
 //! Laws of live routers and of worlds. Each is the contract of a function that does nothing.
 
-ghost use Rattle.std.specs.Prelude.{◌≡◌, ◌<◌, ◌+◌, ◌∷◌, ℕ, List, [], Some, length, slice_get};
+ghost use Rattle.std.specs.Prelude.{◌≡◌, ◌<◌, ◌≤◌, ◌+◌, ◌∷◌, ℕ, List, [], Some, length, slice_get};
 ghost use Rattle.aarp.specs.Choosing.{Choice};
 ghost use Rattle.at_base.specs.Range.{Span};
 ghost use Rattle.at_base.specs.Spelling.{bytes_of};
@@ -9,9 +9,11 @@ ghost use Rattle.ddp.specs.Datagram.{datagram};
 ghost use Rattle.lasting.specs.Hears.{HearsPlain, IsLikeRouter, Ticks, data_datagram};
 ghost use Rattle.lasting.specs.Plain.{IsPlainFrame};
 ghost use Rattle.lasting.specs.Resting.{AreOther, AreOtherAfter, AreTicks};
-ghost use Rattle.lasting.specs.Resting.{AreNumbered, LosesNothingAfter};
+ghost use Rattle.lasting.specs.Resting.{IsNumbered, LosesNothingAfter};
 ghost use Rattle.lasting.specs.Resting.{HasSameDistances, IsAtRest, StaysSettled, last_of};
-ghost use Rattle.lasting.specs.Standing.{AreSettled};
+ghost use Rattle.lasting.specs.Begun.{AreNextTicks, HasRun};
+ghost use Rattle.lasting.specs.Settled.{AreCleanTicks, IsSettledWorld, LosesNothingWhereRowsAge};
+ghost use Rattle.lasting.specs.Standing.{AreSettled, AskNoMore, HaveAddresses};
 ghost use Rattle.live_router.specs.Living.{LiveHears, Living};
 ghost use Rattle.live_router.specs.Ticking.{LiveTicks};
 ghost use Rattle.rtmp.specs.Data.{RoutingData};
@@ -90,6 +92,26 @@ pub fn ticks_between_ageings_stay_settled()
 pub fn ticks_stay_settled()
     ensures { (w : Worldly) (phase : ℕ) (vs : List Worldly) → IsAtRest phase w
         → AreOtherAfter w.plan w.now → LosesNothingAfter w.plan w.now → AreTicks w vs
-        → AreNumbered (w ∷ vs) → (q : ℕ) × IsAtRest q (last_of w vs)
+        → IsNumbered w → (q : ℕ) × IsAtRest q (last_of w vs)
         × HasSameDistances (frozen_as V1 w) (frozen_as V1 (last_of w vs)) }
+{}
+
+/// A world has come from its beginning by ticks, and has settled: no frame is under way; no datagram
+/// of type 1 or 6 is held, and the next tick poisons no row; its stations have settled; and its image
+/// passes the audit and is settled. It passes further ticks, one after the other, each of which leaves
+/// no frame under way and no row for the next one to poison, while no cable loses frames where rows
+/// age, in each hundredth tick, and no later action of the plan sends a datagram of type 1 or 6. After
+/// them it has settled as before, and each row has its range and its distance.
+pub fn settled_worlds_stay_settled()
+    ensures { (w : Worldly) (vs : List Worldly) → HasRun w → IsSettledWorld w
+        → AreOtherAfter w.plan w.now → LosesNothingWhereRowsAge w.plan w.now → AreCleanTicks w vs
+        → IsSettledWorld (last_of w vs)
+        × HasSameDistances (frozen_as V1 w) (frozen_as V1 (last_of w vs)) }
+{}
+
+/// A world has come from its beginning by ticks, and all its nodes have settled on their addresses.
+/// After 11 ticks or more none of them asks any more about its cable.
+pub fn settled_nodes_ask_no_more()
+    ensures { (w : Worldly) (vs : List Worldly) → HasRun w → HaveAddresses w.stations
+        → AreNextTicks w vs → 11 ≤ length vs → AskNoMore (last_of w vs).stations }
 {}
