@@ -15,8 +15,9 @@ use Rattle.lasting.proofs.Images.{AreRouters, router_at}
 use Rattle.lasting.proofs.Placed.{ArePlaced, IsNode, IsPlaced, begun_placed, still_placed, tick_keeps}
 use Rattle.lasting.proofs.Rested.{IsResting}
 use Rattle.lasting.proofs.Tabled.{route_map}
+use Rattle.lasting.proofs.Ticking.{stays}
 use Rattle.lasting.specs.Begun.{AreNextTicks, HasRun, IsBegun, IsNextTick}
-use Rattle.lasting.specs.Resting.{AreOtherAfter, HasSameDistances, IsBelow, IsNumbered, last_of}
+use Rattle.lasting.specs.Resting.{AreOther, AreOtherAfter, HasSameDistances, IsBelow, IsNumbered, StaysSettled, last_of}
 use Rattle.lasting.specs.Settled.{AreCleanTicks, HasSettled, IsSettledWorld, LosesNothingWhereRowsAge}
 use Rattle.lasting.specs.Standing.{AreStanding, IsStandingAsNode, IsStandingAsRouter}
 use Rattle.live_cables.specs.Living.{Wires, happened}
@@ -153,6 +154,11 @@ settles phase w h = record {
     of_node : (m : Member Living LivingNode) → IsStandingAsNode m → HasSettled m
     of_node (RouterMember l) x = absurd x
     of_node (NodeMember n) x = x
+
+pub tick_stays : (old new : Worldly) → HasRun old → IsSettledWorld old → AreOther old.plan new.now → IsNextTick old new → StaysSettled old new
+tick_stays old new run s others t =
+    let come = has_come old run in
+    stays old new (old.now % 100) (rests old come s) others t.tick ⊥ (λ no. absurd no) t.plan
 
 pub stays_settled : (w : Worldly) (vs : List Worldly) → HasRun w → IsSettledWorld w → AreOtherAfter w.plan w.now
     → LosesNothingWhereRowsAge w.plan w.now → AreCleanTicks w vs

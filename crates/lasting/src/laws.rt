@@ -11,7 +11,7 @@ ghost use Rattle.lasting.specs.Plain.{IsPlainFrame};
 ghost use Rattle.lasting.specs.Resting.{AreOther, AreOtherAfter, AreTicks};
 ghost use Rattle.lasting.specs.Resting.{IsNumbered, LosesNothingAfter};
 ghost use Rattle.lasting.specs.Resting.{HasSameDistances, IsAtRest, StaysSettled, last_of};
-ghost use Rattle.lasting.specs.Begun.{AreNextTicks, HasRun};
+ghost use Rattle.lasting.specs.Begun.{AreNextTicks, HasRun, IsNextTick};
 ghost use Rattle.lasting.specs.Settled.{AreCleanTicks, IsSettledWorld, LosesNothingWhereRowsAge};
 ghost use Rattle.lasting.specs.Standing.{AreSettled, AskNoMore, HaveAddresses};
 ghost use Rattle.live_router.specs.Living.{LiveHears, Living};
@@ -94,6 +94,14 @@ pub fn ticks_stay_settled()
         → AreOtherAfter w.plan w.now → LosesNothingAfter w.plan w.now → AreTicks w vs
         → IsNumbered w → (q : ℕ) × IsAtRest q (last_of w vs)
         × HasSameDistances (frozen_as V1 w) (frozen_as V1 (last_of w vs)) }
+{}
+
+/// A world that has come from its beginning by ticks, and has settled, passes one more tick, in which
+/// no action sends a datagram of type 1 or 6: whatever the tick loses or leaves under way, its image
+/// passes and is settled, and each row has its range and its distance as before.
+pub fn a_tick_of_a_settled_world()
+    ensures { (old new : Worldly) → HasRun old → IsSettledWorld old → AreOther old.plan new.now
+        → IsNextTick old new → StaysSettled old new }
 {}
 
 /// A world has come from its beginning by ticks, and has settled: no frame is under way; no datagram
