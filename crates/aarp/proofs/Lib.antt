@@ -7,3 +7,4 @@ mod Turns
 mod Ticks
 mod Counts
 pub mod Settled
+pub mod Released

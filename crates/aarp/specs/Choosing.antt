@@ -42,6 +42,10 @@ pub record Choice : Type 0 where
   pub is_settled : Bool
   pub minds : Minding
 
+-- the choice, which minds the other stations with this care from now on
+abbrev pub minded : Care → Choice → Choice
+minded care c = record c { minds = minding care }
+
 -- a station on a cable of this range may have the address
 abbrev pub is_on : Span → Addr → Bool
 is_on range a = is_between range.start range.end a.net && nat_le 1 a.node && nat_le a.node 253

@@ -47,8 +47,8 @@ pub struct Chooser {
     tried: usize,
     probes: u8,
     is_settled: bool,
-    // The ticks for which it listens yet, whether it heard meanwhile that the cable has another range,
-    // and whether of two that probe at once only one goes on.
+    // The ticks for which it listens yet, whether it heard meanwhile that the cable has another
+    // range, and whether of two that probe at once only one goes on.
     listens: u8,
     is_elsewhere: bool,
     one_goes_on: bool,
@@ -104,7 +104,8 @@ fn upwards(range: Range, addr: Addr) -> Addr
     Addr { net, node: 1 }
 }
 
-/// Whether the bytes come before the others: at the first place where they differ, the byte is less.
+/// Whether the bytes come before the others: at the first place where they differ, the byte is
+/// less.
 fn come_before(bytes: &[u8], others: &[u8]) -> bool
     ensures { result ≡ spec.come_before bytes.now others.now }
 {
@@ -117,9 +118,9 @@ fn come_before(bytes: &[u8], others: &[u8]) -> bool
     }
 }
 
-/// Whether a station with the hardware address `mine` goes on to its next address where one with the
-/// hardware address `theirs` probes for the same: if they differ, or, where only one goes on, if
-/// `mine` is the greater.
+/// Whether a station with the hardware address `mine` goes on to its next address where one with
+/// the hardware address `theirs` probes for the same: if they differ, or, where only one goes on,
+/// if `mine` is the greater.
 fn gives_way(one_goes_on: bool, theirs: Hw, mine: Hw) -> bool
     ensures { result ≡ spec.gives_way one_goes_on theirs mine }
 {
@@ -130,8 +131,8 @@ fn gives_way(one_goes_on: bool, theirs: Hw, mine: Hw) -> bool
     }
 }
 
-/// Whether the packet shows that another station has the address, or probes for it too and isn't the
-/// one that goes on.
+/// Whether the packet shows that another station has the address, or probes for it too and isn't
+/// the one that goes on.
 fn is_conflict(one_goes_on: bool, tentative: Addr, hw: Hw, packet: &Packet) -> bool
     ensures { result ≡ spec.is_conflict one_goes_on tentative hw packet.now }
 {
@@ -280,8 +281,8 @@ impl Chooser {
     }
 
     /// Advances the choice by one tick: returns a probe to broadcast in each of ten ticks; in the
-    /// eleventh the port is settled. While the choice listens, and where the cable has another range,
-    /// there is none. Allocates nothing.
+    /// eleventh the port is settled. While the choice listens, and where the cable has another
+    /// range, there is none. Allocates nothing.
     pub fn tick(&mut self) -> Option<Packet>
         ensures { (self.new, result) ≡ ticked self.old }
     {
@@ -320,6 +321,18 @@ impl Chooser {
             None => self.tentative = upwards(self.range, self.tentative),
         }
         self.probes = 0;
+    }
+
+    /// From now on the choice minds the other stations with this care, as one that begins does.
+    /// Allocates nothing.
+    ///
+    /// This project's own.
+    pub fn mind(&mut self, care: Care)
+        ensures { self.new ≡ spec.minded care self.old }
+    {
+        self.listens = if care.listens { MOST_LISTENED } else { 0 };
+        self.is_elsewhere = false;
+        self.one_goes_on = care.one_goes_on;
     }
 
     /// Handles the range that routing data of the port's cable tells. What is heard first, while

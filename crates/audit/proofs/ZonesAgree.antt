@@ -9,7 +9,7 @@ use Rattle.at_base.proofs.Texts.{same_name_is, is_same_name}
 use Rattle.at_base.specs.declared.error.Place.TheVariants as place
 use Rattle.table_image.specs.Internet.{Internet}
 use Rattle.table_image.specs.Bounds.{IsBounded, IsWithinLimits}
-use Rattle.table_image.specs.ZoneMaps.{known_of_list, is_told, range_of, zone_map}
+use Rattle.image_zones.specs.ZoneMaps.{known_of_list, is_told, range_of, zone_map}
 use Rattle.table_image.specs.declared.cable.Cable.{Cable}
 use Rattle.table_image.specs.declared.zone_list.ZoneList.{ZoneList}
 use Rattle.table_image.specs.declared.router.Router.{Router}

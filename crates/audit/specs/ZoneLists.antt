@@ -6,7 +6,7 @@ use Rattle.at_base.specs.Range.{Span}
 use Rattle.at_base.specs.Text.{same_name}
 use Rattle.audit.specs.Places.{on}
 use Rattle.table_image.specs.Internet.{Internet}
-use Rattle.table_image.specs.ZoneMaps.{zone_map}
+use Rattle.image_zones.specs.ZoneMaps.{zone_map}
 use Rattle.table_image.specs.declared.cable.Cable.{Cable}
 use Rattle.table_image.specs.declared.zone_list.ZoneList.{ZoneList}
 use Rattle.table_image.specs.declared.router.Router.{Router}

@@ -2,7 +2,6 @@
 //! of datagrams, about zones, about nodes and about mappings.
 #![tactic(auto)]
 
-mod bytes;
 mod cables;
 mod judge;
 mod laws;
@@ -26,7 +25,6 @@ mod zone_hints;
 mod zone_lists;
 mod zone_sets;
 
-pub use bytes::audit_bytes;
 pub use judge::audit;
 pub use laws::{
     distances_fit, each_step, loops_have_no_walk, mappings_are_true, nodes_are_served,

@@ -8,6 +8,8 @@ mod of_drawing;
 mod of_file_advice;
 mod of_file_entries;
 mod of_image_feed;
+mod of_image_verdict;
+mod of_image_zones;
 mod of_internet_file;
 mod of_judge;
 mod of_script;
@@ -30,6 +32,8 @@ enum Example {
     FileEntries,
     FirstWords,
     ImageFeed,
+    ImageVerdict,
+    ImageZones,
     InternetFile,
     JudgedBytes,
     JudgedByToml,
@@ -43,13 +47,15 @@ enum Example {
 /// Whether an example gives what its README says.
 fn holds(alloc: Global, example: Example) -> Result<bool, Error> {
     match example {
-        Example::Audit => of_audit::images_are_reported(alloc),
+        Example::Audit => of_audit::the_longest_way_is_told(alloc),
         Example::BadLines => of_script::a_bad_line_is_refused_wherever_it_is_cut(alloc),
         Example::Drawing => of_drawing::images_are_drawn(alloc),
         Example::FileAdvice => of_file_advice::faults_are_told(alloc),
         Example::FileEntries => of_file_entries::seats_are_counted(alloc),
         Example::FirstWords => of_script::a_first_word_is_refused_at_once(alloc),
         Example::ImageFeed => of_image_feed::an_image_is_fed(alloc),
+        Example::ImageVerdict => of_image_verdict::images_are_reported(alloc),
+        Example::ImageZones => of_image_zones::cables_are_counted(alloc),
         Example::InternetFile => of_internet_file::datagrams_are_counted(alloc),
         Example::JudgedBytes => Ok(of_judge::bytes_are_judged()),
         Example::JudgedByToml => Ok(of_judge::what_toml_takes_is_let_through(alloc)),
@@ -80,7 +86,9 @@ fn images_are_fed_read_judged_and_drawn(rt: HostRuntime) {
     let examples = [
         Example::ImageFeed,
         Example::TableImage,
+        Example::ImageZones,
         Example::Audit,
+        Example::ImageVerdict,
         Example::Drawing,
         Example::TablesText,
     ];

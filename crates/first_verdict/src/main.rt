@@ -1,9 +1,9 @@
 //! Audits the image on standard input, and prints the line of the verdict, or why there is no image.
-//! It stands on five crates alone, so `make audit` runs it before anything is proved.
+//! It stands on few crates, so `make audit` runs it before anything is proved.
 #![tactic(auto)]
 
 use at_base::Error;
-use audit::audit_bytes;
+use image_verdict::audit_bytes;
 use std::alloc::Global;
 use std::io;
 use std::io::Read;

@@ -26,7 +26,7 @@ use Rattle.station.specs.declared.output.DropCause.TheVariants.{NoRoute}
 use Rattle.at_base.specs.Multicast.{all_hw}
 use Rattle.table_image.specs.Internet.{Internet}
 use Rattle.table_image.specs.RouteRows.{route_row}
-use Rattle.table_image.specs.ZoneMaps.{zone_map}
+use Rattle.image_zones.specs.ZoneMaps.{zone_map}
 use Rattle.table_image.specs.declared.node.Node.{Node}
 use Rattle.table_image.specs.declared.router.Router.{Router}
 

@@ -10,6 +10,7 @@ use at_base::limits::{
 };
 use audit::audit;
 use case_words::{Answer, Stop, Words, put_line, yes_or_no};
+use image_zones::zones_of;
 use std::alloc::Global;
 use table_image::{Image, Listed, write};
 
@@ -24,7 +25,7 @@ fn add(alloc: Global, table: &mut zip_zones::ZoneTable, words: &mut Words<'_>) -
 
 /// Appends the zone table of a router, after adding a name if the words give one.
 fn zones(alloc: Global, image: &Image, mut words: Words<'_>, text: &mut String) -> Answer {
-    let mut table = image.zones_of(alloc, words.number()?)?;
+    let mut table = zones_of(alloc, image, words.number()?)?;
     if words.passes("adding") {
         add(alloc, &mut table, &mut words)?;
     }

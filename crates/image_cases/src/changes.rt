@@ -1,8 +1,9 @@
 //! Every image that differs from one in a byte.
 
 use at_base::{Cause, Error};
-use audit::{Verdict, audit_bytes};
+use audit::Verdict;
 use case_words::{Answer, Stop};
+use image_verdict::audit_bytes;
 use std::alloc::Global;
 
 const CAUSES: [Cause; 9] = [

@@ -2,8 +2,9 @@
 
 use crate::edits::edited;
 use crate::equal::put_equal;
-use audit::{Fault, MAX_DISTANCE, Place, Rule, Summary, Verdict, audit_bytes};
+use audit::{Fault, MAX_DISTANCE, Place, Rule, Summary, Verdict};
 use case_words::{Answer, Stop, Words};
+use image_verdict::audit_bytes;
 use std::alloc::Global;
 
 /// Appends the verdict line for the bytes with the changes that the words describe.

@@ -12,10 +12,10 @@ use Rattle.audit.proofs.WalkSteps.{cable_good}
 use Rattle.audit.proofs.ZonesAgree.{zones_agree}
 use Rattle.image_stations.proofs.Addressed.{is_range_when}
 use Rattle.image_stations.proofs.Each.{all_when}
-use Rattle.table_image.proofs.ZoneTables.{all_few, one_told}
+use Rattle.image_zones.proofs.ZoneTables.{all_few, one_told}
 use Rattle.table_image.specs.Bounds.{Every, IsBounded}
 use Rattle.table_image.specs.Internet.{Internet}
-use Rattle.table_image.specs.ZoneMaps.{have_few_zones, have_zone_ranges, is_told, known_of_list, lists_at, zone_map}
+use Rattle.image_zones.specs.ZoneMaps.{have_few_zones, have_zone_ranges, is_told, known_of_list, lists_at, zone_map}
 use Rattle.table_image.specs.declared.cable.Cable.{Cable}
 use Rattle.table_image.specs.declared.router.Router.{Router}
 use Rattle.table_image.specs.declared.zone_list.ZoneList.{ZoneList}

@@ -11,7 +11,7 @@ use Rattle.station.specs.declared.member.Member.TheVariants as member
 use Rattle.router.specs.Holding.{Holding}
 use Rattle.table_image.specs.Internet.{Internet}
 use Rattle.table_image.specs.RouteRows.{route_row}
-use Rattle.table_image.specs.ZoneMaps.{zone_map}
+use Rattle.image_zones.specs.ZoneMaps.{zone_map}
 use Rattle.table_image.specs.declared.cable.Cable.{Cable}
 use Rattle.table_image.specs.declared.port.Port.{Port}
 use Rattle.table_image.specs.declared.router.Router.{Router}

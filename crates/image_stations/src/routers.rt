@@ -10,7 +10,7 @@ ghost use Rattle.rtmp.specs.Routes.{IsRouteMap};
 ghost use Rattle.rtmp.specs.declared.row.Row.{Row as RouteRow};
 ghost use Rattle.table_image.specs.Bounds.{IsBounded};
 ghost use Rattle.table_image.specs.RouteRows.{route_row, rows_at};
-ghost use Rattle.table_image.specs.ZoneMaps.{lists_at, zone_map};
+ghost use Rattle.image_zones.specs.ZoneMaps.{lists_at, zone_map};
 ghost use Rattle.at_base.specs.Limits.{max_ports};
 
 use crate::plans::plans_of;
@@ -53,7 +53,7 @@ fn zones_of(alloc: Global, image: &Image, index: u8) -> Result<ZoneTable, Error>
 {
     // Only the prover needs this read: it shows that the image's routers are within its limits.
     let _routers = image.routers();
-    image.zones_of(alloc, index)
+    image_zones::zones_of(alloc, image, index)
 }
 
 /// A router with these ports and tables. Error: `Memory`.

@@ -1,5 +1,4 @@
 pub mod Seated
-pub mod Learnt
 pub mod Settled
 pub mod Aging
 pub mod Short

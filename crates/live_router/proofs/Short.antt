@@ -8,8 +8,8 @@ use Rattle.at_base.specs.Range.{Span}
 use Rattle.at_base.specs.Spelling.{bytes_of, list_bytes}
 use Rattle.at_base.specs.declared.address.Addr.{Addr}
 use Rattle.rtmp.specs.Data.{RoutingData, data_of, routing_data, written_of, written_tuple}
-use Rattle.rtmp.specs.Sending.{IsPacket, own_tuple, packet_numbered, rows_sent, sent_tuple}
-use Rattle.rtmp.specs.declared.request.Horizon.TheVariants.{Split}
+use Rattle.rtmp.specs.Sending.{IsPacket, own_tuple, packet_numbered, response_of, rows_sent, sent_tuple}
+use Rattle.rtmp.specs.declared.request.Horizon.{Horizon}
 use Rattle.rtmp.specs.declared.row.Row.{Row}
 use Rattle.rtmp.specs.declared.tuple.Tuple.{Tuple}
 use Rattle.zip_zones.specs.Formats.{body, packet as zip_packet}
@@ -42,29 +42,33 @@ data_len : (me : Addr) (ts : List Tuple) → length (bytes_of routing_data (data
 unfolding routing_data
 data_len me ts = let tuples = tuples_len 0 ts in omega (arith, tuples)
 
-sent_len : (k : ℕ) (range : Span) (me : Addr) (n : ℕ) (rows : List Row)
+sent_len : (h : Horizon) (k : ℕ) (range : Span) (me : Addr) (n : ℕ) (rows : List Row)
     → length (bytes_of routing_data (data_of me (own_tuple range
-    ∷ map sent_tuple (take 96 (drop (n * 96) (rows_sent Split k rows)))))) ≤ 586
-sent_len k range me n rows =
-    let window = take 96 (drop (n * 96) (rows_sent Split k rows)) in
+    ∷ map sent_tuple (take 96 (drop (n * 96) (rows_sent h k rows)))))) ≤ 586
+sent_len h k range me n rows =
+    let window = take 96 (drop (n * 96) (rows_sent h k rows)) in
     let len = data_len me (own_tuple range ∷ map sent_tuple window) in
-    let few : length window ≤ 96 = omega (arith, length-take 96 (drop (n * 96) (rows_sent Split k rows))) in
+    let few : length window ≤ 96 = omega (arith, length-take 96 (drop (n * 96) (rows_sent h k rows))) in
     let same = length-map window sent_tuple in
     omega (arith, len, few, same)
 
 -- a packet of routing data fits into a datagram
-pub packet_short : (k : ℕ) (range : Span) (me : Addr) (n : ℕ) (rows : List Row) (bytes : Option (List ℕ))
-    → IsPacket (packet_numbered Split k range me n rows) bytes → IfSome bytes (λ b. length b ≤ 586)
-packet_short k range me n rows bytes h = by (n == 0 || nat_lt (n * 96) (length (rows_sent Split k rows))) bytes h
+pub packet_short : (h : Horizon) (k : ℕ) (range : Span) (me : Addr) (n : ℕ) (rows : List Row) (bytes : Option (List ℕ))
+    → IsPacket (packet_numbered h k range me n rows) bytes → IfSome bytes (λ b. length b ≤ 586)
+packet_short h k range me n rows bytes is = by (n == 0 || nat_lt (n * 96) (length (rows_sent h k rows))) bytes is
   where
     packet : RoutingData
-    packet = data_of me (own_tuple range ∷ map sent_tuple (take 96 (drop (n * 96) (rows_sent Split k rows))))
+    packet = data_of me (own_tuple range ∷ map sent_tuple (take 96 (drop (n * 96) (rows_sent h k rows))))
 
     by : (b : Bool) (o : Option (List ℕ)) → IsPacket (cond b (Some packet) None) o → IfSome o (λ x. length x ≤ 586)
     by true None g = absurd g
-    by true (Some x) g = rw g.1 (sent_len k range me n rows)
+    by true (Some x) g = rw g.1 (sent_len h k range me n rows)
     by false None g = tt
     by false (Some x) g = absurd cc
+
+-- the response to a request for the router of a cable fits into a datagram
+pub response_short : (me : Addr) (own : Span) → length (bytes_of routing_data (response_of me own)) ≤ 586
+response_short me own = let len = data_len me (own_tuple own ∷ []) in omega (arith, len)
 
 -- ---- Queries
 

@@ -1,17 +1,27 @@
 //! Live routers and their state.
 
-ghost use Rattle.std.specs.Prelude.{◌≡◌, ◌<◌, ◌⊎◌, ◌↔◌, [], length, map, IfErr, IfOk, IsTrue};
+ghost use Rattle.std.specs.Prelude.{◌≡◌, ◌<◌, ◌⊎◌, ◌↔◌, [], length, map, IfErr, IfOk, IsOkUnless};
+ghost use Rattle.std.specs.Prelude.{IsOk, IsTrue, OnErr, OnOk, Some, false};
 ghost use Rattle.std.specs.List.{list_all};
+ghost use Rattle.aarp.specs.Choosing.{minded, wants};
+ghost use Rattle.aarp.specs.declared.packet.Packet.{Packet as PacketValue};
+ghost use Rattle.live_router.specs.Living.{heard_live_as};
+ghost use Rattle.router.specs.Resolution.{ports_told};
 ghost use Rattle.rtmp.specs.Routes.{poisoned};
+ghost use Rattle.station.specs.Hearing.{hearing};
+ghost use Rattle.station.specs.Lawful.{PutsOut};
+ghost use Rattle.station.specs.Resolution.{packet_at};
+ghost use Rattle.station.specs.declared.heard.Kind.TheVariants.{Aarp};
 ghost use Rattle.station.specs.Ports.{is_planned, planned};
 ghost use Rattle.at_base.specs.Limits.{max_ports};
 
 use crate::passing::{pass, phase_after};
 use crate::received::hear;
+use aarp::Care;
 use at_base::limits::MAX_PORTS;
-use at_base::{Addr, Error};
+use at_base::{Addr, Error, Range};
 use router::Router;
-use rtmp::RouteTable;
+use rtmp::{Nonextended, RouteTable};
 use station::{Heard, Outputs, PortPlan, Station};
 use std::alloc::Global;
 use std::marker::Model;
@@ -97,6 +107,64 @@ impl<T: RouteTable> LiveRouter<T> {
     {
         self.router.poison(next);
     }
+
+    /// From now on the choices of the ports' addresses mind the other stations with this care, as
+    /// those that begin do. Allocates nothing.
+    ///
+    /// This project's own.
+    pub fn mind(&mut self, care: Care)
+        ensures { self.new ≡ record self.old {
+          router = record self.old.router {
+            ports = map (minded care) self.old.router.ports;
+          };
+        } }
+    {
+        self.settled = false;
+        self.router.mind(care);
+    }
+
+    /// Handles the range that routing data tells of a port's cable: a port that listens before its
+    /// first probe begins to probe, or never does. Allocates nothing.
+    ///
+    /// This project's own.
+    pub fn hear_range(&mut self, port: u8, range: Range)
+        requires { port < length self.old.router.ports }
+        ensures { self.new ≡ record self.old {
+          router = record self.old.router {
+            ports = ports_told self.old.router.ports port range;
+          };
+        } }
+    {
+        self.settled = false;
+        self.router.hear_range(port, range);
+    }
+
+    /// Receives a frame on one of its ports as `receive` does, and hears nonextended tuples of
+    /// routing data as said; `receive` skips them. Error: `Memory`; neither the router nor the
+    /// outputs change then.
+    ///
+    /// Inside AppleTalk, the chapter on RTMP.
+    pub fn hear(
+        &mut self,
+        heard: &Heard<'_>,
+        nonextended: Nonextended,
+        outputs: &mut Outputs,
+    ) -> Result<(), Error>
+        requires { heard.now.port < length self.old.router.ports }
+        ensures ok { OnOk result
+            (PutsOut (length self.old.router.ports) outputs.old.items outputs.new.items (λ added.
+            (added, self.new) ≡ heard_live_as nonextended self.old (hearing heard.now))) }
+        ensures ports_stay { length self.new.router.ports ≡ length self.old.router.ports }
+        // An AARP packet that asks for no response needs no memory.
+        ensures unasked { heard.now.kind ≡ Aarp → (p : PacketValue)
+            → packet_at heard.now.bytes.now ≡ Some p → wants p.function ≡ false → IsOk result }
+        ensures refused { IsOkUnless result Error.Memory }
+        ensures router_stays { OnErr result (self.new ≡ self.old) }
+        ensures outputs_stay { OnErr result (outputs.new.items ≡ outputs.old.items) }
+    {
+        self.settled = false;
+        hear(&mut self.router, heard, nonextended, outputs)
+    }
 }
 
 impl<T: RouteTable> Station for LiveRouter<T> {
@@ -116,7 +184,7 @@ impl<T: RouteTable> Station for LiveRouter<T> {
 
     fn receive(&mut self, heard: &Heard<'_>, outputs: &mut Outputs) -> Result<(), Error> {
         self.settled = false;
-        hear(&mut self.router, heard, outputs)
+        hear(&mut self.router, heard, Nonextended::Skipped, outputs)
     }
 
     fn tick(&mut self, outputs: &mut Outputs) -> Result<(), Error> {

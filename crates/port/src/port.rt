@@ -100,6 +100,13 @@ impl Port {
         }
     }
 
+    /// The hardware address that was last learnt for an address, if one was. Allocates nothing.
+    pub fn look(&self, addr: Addr) -> Option<Hw>
+        ensures { result ≡ mapping_of addr self.now.maps.known }
+    {
+        self.mapper.look(addr)
+    }
+
     /// Holds a datagram until the hardware address of its next station is learnt. Allocates nothing.
     pub fn hold(&mut self, next: Addr, bytes: Bytes) -> Waits
         ensures first { result.first ≡ spec.is_first self.old next }

@@ -10,8 +10,8 @@ use Rattle.at_base.proofs.Spans.{all_with}
 use Rattle.at_base.specs.Range.{Span, same_range}
 use Rattle.at_base.specs.declared.address.Addr.{Addr}
 use Rattle.learning.specs.Heard.{is_from_neighbour, routes_after}
-use Rattle.rtmp.specs.declared.tuple.Nonextended.TheVariants.{Skipped}
-use Rattle.rtmp.specs.Data.{RoutingData, tuples_of}
+use Rattle.rtmp.specs.declared.tuple.Nonextended.{Nonextended}
+use Rattle.rtmp.specs.Data.{RoutingData, tuples_heard}
 use Rattle.rtmp.specs.Routes.{after_hearing, heard, heard_packet, heard_row, heard_within, is_direct, is_new, row_at}
 use Rattle.rtmp.specs.States.{is_usable}
 use Rattle.rtmp.specs.declared.row.Row.{Row}
@@ -73,16 +73,16 @@ packet_seated n s port (t ∷ tuples) rows new h =
     (within_seated n t.range t.distance s port rows new h)
 
 -- after a packet of routing data that was received on one of the ports, the port of each row is below n
-pub after_seated : (n : ℕ) (range : Span) (port : ℕ) (p : RoutingData) (rows : List Row) → nat_lt port n ≡ true → Seated n rows
-    → Seated n (routes_after Skipped range port p rows)
-after_seated n range port p rows new h = by (is_from_neighbour range p)
+pub after_seated : (n : ℕ) (kind : Nonextended) (range : Span) (port : ℕ) (p : RoutingData) (rows : List Row) → nat_lt port n ≡ true → Seated n rows
+    → Seated n (routes_after kind range port p rows)
+after_seated n kind range port p rows new h = by (is_from_neighbour range p)
   where
-    by : (b : Bool) → Seated n (cond b (heard_packet p.router port (tuples_of p.written) rows) rows)
-    by true = packet_seated n p.router port (tuples_of p.written) rows new h
+    by : (b : Bool) → Seated n (cond b (heard_packet p.router port (tuples_heard kind p.written) rows) rows)
+    by true = packet_seated n p.router port (tuples_heard kind p.written) rows new h
     by false = h
 
 -- after a call that hears such a packet or changes nothing, the port of each row is below n
-pub learnt_seated : (n : ℕ) (range : Span) (port : ℕ) (p : RoutingData) (old new : List Row) (r : Result (Unit {0}) Error)
-    → nat_lt port n ≡ true → Seated n old → OnOk r (new ≡ routes_after Skipped range port p old) → OnErr r (new ≡ old) → Seated n new
-learnt_seated n range port p old new (Ok u) lt h ok err = rw ok (after_seated n range port p old lt h)
-learnt_seated n range port p old new (Err e) lt h ok err = rw err h
+pub learnt_seated : (n : ℕ) (kind : Nonextended) (range : Span) (port : ℕ) (p : RoutingData) (old new : List Row) (r : Result (Unit {0}) Error)
+    → nat_lt port n ≡ true → Seated n old → OnOk r (new ≡ routes_after kind range port p old) → OnErr r (new ≡ old) → Seated n new
+learnt_seated n kind range port p old new (Ok u) lt h ok err = rw ok (after_seated n kind range port p old lt h)
+learnt_seated n kind range port p old new (Err e) lt h ok err = rw err h

@@ -1,6 +1,8 @@
 //! The AARP packets that a router receives.
 
-ghost use Rattle.std.specs.Prelude.{IsOk, IsOkUnless, None, OnErr, OnOk, Some, length, slice_get, ◌<◌, ◌≡◌};
+ghost use Rattle.std.specs.Prelude.{IsOk, IsOkUnless, None, OnErr, OnOk, Some, false, length, slice_get, ◌<◌, ◌≡◌};
+ghost use Rattle.aarp.specs.Choosing.{wants};
+ghost use Rattle.aarp.specs.declared.packet.Packet.{Packet as PacketValue};
 ghost use Rattle.station.specs.Hearing.{hearing};
 ghost use Rattle.station.specs.Lawful.{PutsOut};
 ghost use Rattle.station.specs.Resolution.{answer_by, packet_at};
@@ -44,6 +46,8 @@ impl<T: RouteTable> Router<T> {
         ensures ok { OnOk result
             (PutsOut (length self.now.ports) outputs.old.items outputs.new.items (λ added.
             added ≡ resolved self.now.ports port (Some packet.now))) }
+        // A packet that asks for no response needs no memory.
+        ensures unasked { wants packet.now.function ≡ false → IsOk result }
         ensures refused { IsOkUnless result Error.Memory }
         ensures outputs_stay { OnErr result (outputs.new.items ≡ outputs.old.items) }
     {
@@ -57,17 +61,18 @@ impl<T: RouteTable> Router<T> {
 
     /// Receives an AARP frame on one of the ports. Bytes that don't begin with an AARP packet are
     /// ignored. Error: `Memory`; neither the router nor the outputs change then.
-    pub(crate) fn hear_packet(
-        &mut self,
-        heard: &Heard<'_>,
-        outputs: &mut Outputs,
-    ) -> Result<(), Error>
+    ///
+    /// Inside AppleTalk, the chapter on AARP.
+    pub fn hear_packet(&mut self, heard: &Heard<'_>, outputs: &mut Outputs) -> Result<(), Error>
         requires { heard.now.port < length self.old.ports }
         ensures ok { OnOk result
             (PutsOut (length self.old.ports) outputs.old.items outputs.new.items (λ added.
             (added, self.new) ≡ heard_packet self.old (hearing heard.now))) }
         ensures ports_stay { length self.new.ports ≡ length self.old.ports }
         ensures no_packet { packet_at heard.now.bytes.now ≡ None → IsOk result }
+        // A packet that asks for no response needs no memory.
+        ensures unasked { (p : PacketValue) → packet_at heard.now.bytes.now ≡ Some p
+            → wants p.function ≡ false → IsOk result }
         ensures refused { IsOkUnless result Error.Memory }
         ensures station_stays { OnErr result (self.new ≡ self.old) }
         ensures outputs_stay { OnErr result (outputs.new.items ≡ outputs.old.items) }

@@ -154,8 +154,10 @@ fn course_by(ports: &[Chooser], hand: Hand, hops: u8, target: Addr) -> Course
 }
 
 impl<T: RouteTable> Router<T> {
-    /// The course of a datagram that was received on one of the ports.
-    pub(crate) fn course(&self, port: u8, link: Link, hops: u8, target: Addr) -> Course
+    /// The course of a datagram that was received on one of the ports. Allocates nothing.
+    ///
+    /// Inside AppleTalk, the chapter on DDP.
+    pub fn course(&self, port: u8, link: Link, hops: u8, target: Addr) -> Course
         requires port { port < length self.now.ports }
         requires hops { hops ≤ 15 }
         ensures value { result

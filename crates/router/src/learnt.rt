@@ -2,7 +2,6 @@
 
 ghost use Rattle.std.specs.Prelude.{◌≡◌, ◌<◌, length, IsOkUnless, OnErr, OnOk};
 ghost use Rattle.learning.specs.Heard.{routes_after};
-ghost use Rattle.rtmp.specs.declared.tuple.Nonextended.TheVariants.{Skipped};
 ghost use Rattle.zip_zones.specs.Answers.{after_reply};
 
 use crate::router::Router;
@@ -13,7 +12,7 @@ use zip_zones::Packet;
 
 impl<T: RouteTable> Router<T> {
     /// Learns from a packet of routing data that was received on a port, whose cable has this range;
-    /// nonextended tuples are skipped. Error: `Memory`; nothing changes then.
+    /// nonextended tuples are heard as said. Error: `Memory`; nothing changes then.
     ///
     /// Inside AppleTalk, the chapter on RTMP.
     pub fn learn_routes(
@@ -21,15 +20,16 @@ impl<T: RouteTable> Router<T> {
         range: Range,
         port: u8,
         packet: &DataPacket<'_>,
+        nonextended: Nonextended,
     ) -> Result<(), Error>
         requires { port < length self.old.ports }
         ensures ok { OnOk result (self.new ≡ record self.old {
-          routes = routes_after Skipped range port packet.now self.old.routes;
+          routes = routes_after nonextended range port packet.now self.old.routes;
         }) }
         ensures stays { OnErr result (self.new ≡ self.old) }
         ensures refused { IsOkUnless result Error.Memory }
     {
-        learn_routes(&mut self.routes, range, port, packet, Nonextended::Skipped)
+        learn_routes(&mut self.routes, range, port, packet, nonextended)
     }
 
     /// Learns from a ZIP packet, if it is a reply. Error: `Memory`; nothing changes then.

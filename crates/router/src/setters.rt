@@ -1,17 +1,28 @@
 //! The setters that a live router uses to change a router's tables and the addresses of its ports.
 
-ghost use Rattle.std.specs.Prelude.{◌≡◌, ◌<◌, ◌≤◌, length, nat_lt, IsTrue};
+ghost use Rattle.std.specs.Prelude.{◌≡◌, ◌<◌, ◌≤◌, length, map, nat_lt, IsTrue};
 ghost use Rattle.std.specs.List.{list_all};
+ghost use Rattle.aarp.specs.Choosing.{minded};
 ghost use Rattle.atp.specs.Responding.{ticked};
 ghost use Rattle.rtmp.specs.Routes.{poisoned};
 ghost use Rattle.at_base.specs.Limits.{max_ports};
+ghost use Rattle.router.specs.Resolution.{ports_told};
 
 use crate::router::Router;
-use aarp::Chooser;
-use at_base::Addr;
+use aarp::{Care, Chooser};
+use at_base::{Addr, Range};
 use rtmp::RouteTable;
 use std::alloc::Global;
 use zip_zones::ZoneTable;
+
+/// From now on each choice minds the other stations with this care.
+fn mind_all(ports: &mut [Chooser], care: Care)
+    ensures { ports.new ≡ map (minded care) ports.old }
+{
+    for port in ports.iter_mut() {
+        port.mind(care);
+    }
+}
 
 impl<T: RouteTable> Router<T> {
     /// The allocator that the router uses.
@@ -51,6 +62,29 @@ impl<T: RouteTable> Router<T> {
         ensures { self.new ≡ record self.old { ports = ports.items } }
     {
         self.ports = ports;
+    }
+
+    /// From now on the choices of the ports' addresses mind the other stations with this care, as
+    /// those that begin do. Allocates nothing.
+    ///
+    /// This project's own.
+    pub fn mind(&mut self, care: Care)
+        ensures { self.new ≡ record self.old {
+          ports = map (minded care) self.old.ports;
+        } }
+    {
+        mind_all(self.ports.as_mut_slice(), care);
+    }
+
+    /// Handles the range that routing data tells of a port's cable: a port that listens before its
+    /// first probe begins to probe, or never does. Allocates nothing.
+    ///
+    /// This project's own.
+    pub fn hear_range(&mut self, port: u8, range: Range)
+        requires { port < length self.old.ports }
+        ensures { self.new ≡ record self.old { ports = ports_told self.old.ports port range } }
+    {
+        self.ports[port as usize].hear_range(range);
     }
 
     /// Advances the exactly-once requests by one tick. Allocates nothing.

@@ -67,8 +67,10 @@ pub(crate) fn request_way(ports: &[Chooser], hand: Hand, header: Header) -> Opti
 
 impl<T: RouteTable> Router<T> {
     /// The way of the reply to a datagram that ended on a port. `None` if the router doesn't reply
-    /// to the datagram's source, has no route to it, or the port has no address.
-    pub(crate) fn way_back(&self, port: u8, view: &View<'_>) -> Option<Way>
+    /// to the datagram's source, has no route to it, or the port has no address. Allocates nothing.
+    ///
+    /// Inside AppleTalk, the chapter on DDP.
+    pub fn way_back(&self, port: u8, view: &View<'_>) -> Option<Way>
         ensures value { result ≡ ways_spec.way_back self.now port view.now }
         ensures inside { IsWayIn (length self.now.ports) result }
     {

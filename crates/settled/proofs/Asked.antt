@@ -17,7 +17,7 @@ use Rattle.settled.proofs.Next.{row_good}
 use Rattle.settled.proofs.Tests.{any_at}
 use Rattle.table_image.specs.Internet.{Internet}
 use Rattle.table_image.specs.RouteRows.{route_row}
-use Rattle.table_image.specs.ZoneMaps.{is_told, known_of_list, range_of, zone_map}
+use Rattle.image_zones.specs.ZoneMaps.{is_told, known_of_list, range_of, zone_map}
 use Rattle.table_image.specs.declared.row.Row.{Row}
 use Rattle.table_image.specs.declared.router.Router.{Router}
 use Rattle.table_image.specs.declared.zone_list.ZoneList.{ZoneList}

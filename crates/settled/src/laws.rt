@@ -16,7 +16,7 @@ ghost use Rattle.table_image.specs.Bounds.{IsBounded};
 ghost use Rattle.table_image.specs.Internet.{Internet};
 ghost use Rattle.table_image.specs.RouteRows.{route_row};
 ghost use Rattle.table_image.specs.Rows.{is_direct};
-ghost use Rattle.table_image.specs.ZoneMaps.{zone_map};
+ghost use Rattle.image_zones.specs.ZoneMaps.{zone_map};
 ghost use Rattle.table_image.specs.declared.router.Router.{Router};
 ghost use Rattle.table_image.specs.declared.row.Row.{Row};
 

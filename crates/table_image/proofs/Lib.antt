@@ -10,5 +10,4 @@ pub mod Checked
 pub mod CheckedParts
 pub mod CheckedImages
 pub mod Made
-pub mod ZoneTables
 pub mod Places

@@ -14,6 +14,5 @@ pub mod Short
 pub mod Checking
 pub mod Rows
 pub mod RouteRows
-pub mod ZoneMaps
 pub mod Seats
 pub mod Directory

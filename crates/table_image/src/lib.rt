@@ -25,7 +25,6 @@ mod row;
 mod sizes;
 mod version;
 mod zone_list;
-mod zone_maps;
 mod zones;
 
 pub use cable::Cable;

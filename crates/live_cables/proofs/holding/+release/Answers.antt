@@ -2,7 +2,8 @@ use Rattle.std.proofs.Common.{◌∷◌, filter, length, map, not, sym, ◌∙�
 use Rattle.aarp.specs.Mapping.{is_for}
 use Rattle.live_cables.specs.Holding.{AreReleased}
 use Rattle.live_cables.proofs.Calm.{puts_then}
-use Rattle.live_cables.proofs.Released.{adds_none, fewer_left, first_for, none_for, none_gone, none_left, others_left}
+use Rattle.aarp.proofs.Released.{fewer_left, first_for, none_for, none_gone, none_left, others_left}
+use Rattle.live_cables.proofs.Released.{adds_none}
 use Rattle.live_cables.proofs.holding.+release.Goals as goal
 
 pub returns-in_default-clause-released : goal.returns-in_default-clause-released

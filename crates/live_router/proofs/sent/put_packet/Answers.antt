@@ -1,7 +1,8 @@
 use Rattle.live_router.proofs.Short.{packet_short}
+use Rattle.rtmp.specs.declared.request.Horizon.TheVariants.{Split}
 use Rattle.live_router.proofs.sent.put_packet.Goals as goal
 
 pub put_one-requires : goal.put_one-requires
 put_one-requires g c =
-    packet_short c.args.port c.args.range c.args.me c.args.number (g.T.RouteTable.rows c.args.routes.now) c.in_ok-packet.packet
+    packet_short Split c.args.port c.args.range c.args.me c.args.number (g.T.RouteTable.rows c.args.routes.now) c.in_ok-packet.packet
     (c.in_ok-packet.ensures {u = tt}).made

@@ -10,7 +10,7 @@ invariant_of-self g c =
     let inside = subst (λ (h : Holding). c.args.port < length h.ports) (sym c.self.view_is) c.requires in
     record {
       few = c.self.invariant.few;
-      seated = learnt_seated n c.args.range c.args.port c.args.packet.now (g.T.RouteTable.rows c.self.inside.routes)
+      seated = learnt_seated n c.args.nonextended c.args.range c.args.port c.args.packet.now (g.T.RouteTable.rows c.self.inside.routes)
           (g.T.RouteTable.rows c.learn_routes.new.routes) c.learn_routes.result (lt-ltb c.args.port n inside) c.self.invariant.seated
           c.learn_routes.ensures.ok c.learn_routes.ensures.stays;
     }

@@ -1,6 +1,6 @@
 use Rattle.std.proofs.Common.{sym}
-use Rattle.table_image.proofs.ZoneTables.{lists_map}
-use Rattle.table_image.proofs.zone_maps.table_of.Goals as goal
+use Rattle.image_zones.proofs.ZoneTables.{lists_map}
+use Rattle.image_zones.proofs.zone_maps.table_of.Goals as goal
 
 pub put_all-requires-clause-map : goal.put_all-requires-clause-map
 put_all-requires-clause-map c =

@@ -15,7 +15,7 @@ use Rattle.zip_zones.proofs.Appended.{front_map, last_parts}
 use Rattle.zip_zones.proofs.Tables.{known_of_parts, known_parts}
 use Rattle.table_image.specs.declared.zone_list.ZoneList.{ZoneList}
 use Rattle.table_image.specs.Bounds.{Every}
-use Rattle.table_image.specs.ZoneMaps.{have_few_zones, have_zone_ranges, is_told, known_of_list, range_of, zone_map}
+use Rattle.image_zones.specs.ZoneMaps.{have_few_zones, have_zone_ranges, is_told, known_of_list, range_of, zone_map}
 
 -- the zone lists have no more names than their limit
 abbrev pub AreShort : List ZoneList → Type 0

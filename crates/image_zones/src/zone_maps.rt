@@ -9,16 +9,14 @@ ghost use Rattle.at_base.specs.Limits.{max_lists, max_zones};
 ghost use Rattle.at_base.specs.Range.{is_range};
 ghost use Rattle.zip_zones.specs.Zones.{IsZoneMap, are_above};
 ghost use Rattle.table_image.specs.Bounds.{Every};
-ghost use Rattle.table_image.specs.ZoneMaps as spec;
-ghost use Rattle.table_image.specs.ZoneMaps.{have_few_zones, have_zone_ranges, lists_at, zone_map};
+ghost use Rattle.image_zones.specs.ZoneMaps as spec;
+ghost use Rattle.image_zones.specs.ZoneMaps.{have_few_zones, have_zone_ranges, lists_at, zone_map};
 ghost use Rattle.table_image.specs.declared.zone_list.ZoneList.{ZoneList as ListValue};
 
-use crate::image::Image;
-use crate::router::Router;
-use crate::zone_list::ZoneList;
 use at_base::limits::MAX_ZONES;
 use at_base::{Error, Range, What};
 use std::alloc::Global;
+use table_image::{Image, Router, ZoneList};
 use zip_zones::ZoneTable;
 
 /// Whether the range of the list is valid.
@@ -168,28 +166,26 @@ fn lists_of(image: &Image, router: u8) -> Option<&[ZoneList]>
     Some(found.lists.as_slice())
 }
 
-impl Image {
-    /// The zone lists of a router, by its index from 0, as a zone table. A list that isn't complete
-    /// gets a total of one more than its names; one without names is left out.
-    ///
-    /// Errors: `NoSuch(Router)`; else `BadRange` where the range of a list isn't valid, or two
-    /// overlap; else `Full` where a list that isn't complete has `MAX_ZONES` names; else `Memory`.
-    pub fn zones_of(&self, alloc: Global, router: u8) -> Result<ZoneTable, Error>
-        ensures ok { IfOk result
-            (λ table. option_map zone_map (lists_at router self.now) ≡ Some table) }
-        ensures none { (result ≡ Err (Error.NoSuch What.Router))
-            ↔ (length self.now.routers ≤ router) }
-        ensures range { (result ≡ Err Error.BadRange)
-            ↔ (option_map have_zone_ranges (lists_at router self.now) ≡ Some false) }
-        ensures full { (result ≡ Err Error.Full)
-            ↔ ((option_map have_zone_ranges (lists_at router self.now) ≡ Some true)
-            × (option_map have_few_zones (lists_at router self.now) ≡ Some false)) }
-        ensures refused { IfErr result (λ e. (e ≡ Error.NoSuch What.Router)
-            ⊎ (e ≡ Error.BadRange) ⊎ (e ≡ Error.Full) ⊎ (e ≡ Error.Memory)) }
-    {
-        match lists_of(self, router) {
-            Some(lists) => table_of(alloc, lists),
-            None => Err(Error::NoSuch(What::Router)),
-        }
+/// The zone lists of a router, by its index from 0, as a zone table. A list that isn't complete
+/// gets a total of one more than its names; one without names is left out.
+///
+/// Errors: `NoSuch(Router)`; else `BadRange` where the range of a list isn't valid, or two
+/// overlap; else `Full` where a list that isn't complete has `MAX_ZONES` names; else `Memory`.
+pub fn zones_of(alloc: Global, image: &Image, router: u8) -> Result<ZoneTable, Error>
+    ensures ok { IfOk result
+        (λ table. option_map zone_map (lists_at router image.now) ≡ Some table) }
+    ensures none { (result ≡ Err (Error.NoSuch What.Router))
+        ↔ (length image.now.routers ≤ router) }
+    ensures range { (result ≡ Err Error.BadRange)
+        ↔ (option_map have_zone_ranges (lists_at router image.now) ≡ Some false) }
+    ensures full { (result ≡ Err Error.Full)
+        ↔ ((option_map have_zone_ranges (lists_at router image.now) ≡ Some true)
+        × (option_map have_few_zones (lists_at router image.now) ≡ Some false)) }
+    ensures refused { IfErr result (λ e. (e ≡ Error.NoSuch What.Router)
+        ⊎ (e ≡ Error.BadRange) ⊎ (e ≡ Error.Full) ⊎ (e ≡ Error.Memory)) }
+{
+    match lists_of(image, router) {
+        Some(lists) => table_of(alloc, lists),
+        None => Err(Error::NoSuch(What::Router)),
     }
 }

@@ -1,6 +1,6 @@
 use Rattle.std.proofs.Common.{◌≡◌, Some, List, slice_get, sym, ap, ◌∙◌}
 use Rattle.table_image.specs.declared.router.Router.{Router}
-use Rattle.table_image.proofs.zone_maps.lists_of.Goals as goal
+use Rattle.image_zones.proofs.zone_maps.lists_of.Goals as goal
 
 pub returns-clause-few : goal.returns-clause-few
 returns-clause-few c =

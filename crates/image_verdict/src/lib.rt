@@ -1,4 +1,5 @@
 //! The verdict for the bytes of an image.
+#![tactic(auto)]
 
 ghost use Rattle.std.specs.Prelude.{◌≡◌, IfOk, IfErr, MatchResult};
 ghost use Rattle.at_base.specs.Spelling.{Spells};
@@ -9,9 +10,8 @@ ghost use Rattle.table_image.specs.declared.flaw.Flaw.{Flaw};
 ghost use Rattle.audit.specs.Verdicts.{Judges, OnYes};
 ghost use Rattle.audit.specs.Walks.{WalksHome};
 
-use crate::judge::audit;
-use crate::verdict::Verdict;
 use at_base::Error;
+use audit::{Verdict, audit};
 use image_feed::read;
 use std::alloc::Global;
 

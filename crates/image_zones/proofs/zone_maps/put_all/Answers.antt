@@ -2,9 +2,9 @@ use Rattle.std.proofs.Common.{◌≡◌, ◌++◌, suc, ◌∷◌, ap, sym, ◌�
 use Rattle.std.proofs.Math.Seq.{drop-cons}
 use Rattle.std.proofs.lemmas.Option.{slice_get-get_or}
 use Rattle.table_image.specs.declared.zone_list.ZoneList.{ZoneList}
-use Rattle.table_image.specs.ZoneMaps.{zone_map}
-use Rattle.table_image.proofs.ZoneTables.{front_of_lists}
-use Rattle.table_image.proofs.zone_maps.put_all.Goals as goal
+use Rattle.image_zones.specs.ZoneMaps.{zone_map}
+use Rattle.image_zones.proofs.ZoneTables.{front_of_lists}
+use Rattle.image_zones.proofs.zone_maps.put_all.Goals as goal
 
 pub put-requires-clause-map : goal.put-requires-clause-map
 put-requires-clause-map c =

@@ -4,9 +4,9 @@ use Rattle.at_base.specs.Range.{Span, IsRange}
 use Rattle.at_base.specs.declared.error.Error.{Error}
 use Rattle.at_base.specs.declared.error.Error.TheVariants.{BadRange, Full, Memory}
 use Rattle.zip_zones.specs.Zones.{has_room, is_past}
-use Rattle.table_image.specs.ZoneMaps.{is_told, range_of}
-use Rattle.table_image.proofs.ZoneTables.{least_fits, least_for, room_for}
-use Rattle.table_image.proofs.zone_maps.put.Goals as goal
+use Rattle.image_zones.specs.ZoneMaps.{is_told, range_of}
+use Rattle.image_zones.proofs.ZoneTables.{least_fits, least_for, room_for}
+use Rattle.image_zones.proofs.zone_maps.put.Goals as goal
 
 -- of three errors, two of which don't occur, the third is left
 only_memory : {T : Type 0} (r : Result T Error) → IfErr r (λ e. (e ≡ BadRange) ⊎ (e ≡ Full) ⊎ (e ≡ Memory))
