@@ -353,17 +353,17 @@ def apart(data, lines, packets, end):
     if any(it < until for it in theirs):
         raise Apart(f"a packet of no block at {min(theirs)}")
     if stop == end.at:
-        return compared, classes + ends_apart(data, at.get(stop), lines[-1] == "end", end.error in (0, SHORT))
+        return compared, classes + ends_apart(at.get(stop), len(data) - stop, lines[-1] == "end", end.error in (0, SHORT))
     return compared, classes + stops_apart(data, blocks, at, stop, end)
 
 
-def ends_apart(data, block, ours_ended, theirs_ended):
-    """The class by which, at one block, the one takes it for the end of the capture and the other for a fault."""
+def ends_apart(block, left, ours_ended, theirs_ended):
+    """The class by which, at one block of which so many bytes are left, the one takes these for the end and the other for a fault."""
     if ours_ended == theirs_ended:
         return []
     if theirs_ended and block and block.kind in SKIPPED:
         return [CONTENTS]
-    if block and block.at + max(block.size, 12) > len(data):
+    if left < max(block.size if block else 0, 12):
         return ["the end of the capture in a block that has a fault too"]
     raise Apart(f"an end of {('Wireshark', 'dump_frames')[ours_ended]} alone")
 
