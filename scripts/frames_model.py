@@ -43,7 +43,6 @@ def micros(units, resolution, offset):
     """The time of so many units, in microseconds."""
     power = resolution & 127
     time = units * 10**6 // (2**power if resolution > 127 else 10**power)
-    time = min(time, MOST_TIME)
     return min(max(time + 10**6 * offset, 0), MOST_TIME)
 
 

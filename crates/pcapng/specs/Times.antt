@@ -17,12 +17,12 @@ binary_micros units p = units * 1000000 / 2 ^ p
 abbrev pub micros : ℕ → ℕ → ℕ
 micros units resolution = if nat_lt resolution 128 then decimal_micros units resolution else binary_micros units (resolution - 128)
 
--- the time with an offset in seconds, a number of 64 bits in two's complement: no time is below 0, and none above the
--- greatest
+-- the time with an offset in seconds, a number of 64 bits in two's complement: what is below 0 is 0, and what is above the
+-- greatest time is that one
 abbrev pub after : ℕ → ℕ → ℕ
 after time offset =
-    if nat_lt offset (2 ^ 63) then min (time + offset * 1000000) max_time else time - (2 ^ 64 - offset) * 1000000
+    if nat_lt offset (2 ^ 63) then min (time + offset * 1000000) max_time else min (time - (2 ^ 64 - offset) * 1000000) max_time
 
 -- the time of so many units of a resolution, with an offset
 abbrev pub time_of : ℕ → ℕ → ℕ → ℕ
-time_of units resolution offset = after (min (micros units resolution) max_time) offset
+time_of units resolution offset = after (micros units resolution) offset
