@@ -7,7 +7,7 @@ ghost use Rattle.aarp.specs.Mapping.{forgotten, holding, learnt, mapping_of, pus
 ghost use Rattle.aarp.specs.Mapping.{to_ask, waited, without_oldest};
 ghost use Rattle.port.specs.Ports as spec;
 ghost use Rattle.port.specs.Ports.{waiting};
-ghost use Rattle.at_base.specs.Limits.{max_mappings};
+ghost use Rattle.at_base.specs.Limits.{max_held, max_mappings};
 
 use aarp::{Asks, Function, Held, Mapper, Packet};
 use at_base::{Addr, Bytes, Error, Hw};
@@ -102,7 +102,8 @@ impl Port {
 
     /// The hardware address that was last learnt for an address, if one was. Allocates nothing.
     pub fn look(&self, addr: Addr) -> Option<Hw>
-        ensures { result ≡ mapping_of addr self.now.maps.known }
+        ensures value { result ≡ mapping_of addr self.now.maps.known }
+        ensures few { length self.now.maps.held ≤ max_held }
     {
         self.mapper.look(addr)
     }

@@ -7,6 +7,7 @@ mod of_aarp;
 mod of_at_base;
 mod of_atp;
 mod of_cable_model;
+mod of_cabled;
 mod of_capture_feed;
 mod of_captures;
 mod of_ddp;
@@ -16,6 +17,7 @@ mod of_ethertalk;
 mod of_learning;
 mod of_nbp;
 mod of_pcapng;
+mod of_port;
 mod of_router;
 mod of_rtmp;
 mod of_text;
@@ -31,6 +33,7 @@ enum Example {
     AtBase,
     Atp,
     CableModel,
+    Cabled,
     CaptureFeed,
     Captures,
     Ddp,
@@ -40,6 +43,7 @@ enum Example {
     Learning,
     Nbp,
     Pcapng,
+    Port,
     Router,
     Rtmp,
     Text,
@@ -53,6 +57,7 @@ fn holds(alloc: Global, example: Example) -> Result<bool, Error> {
         Example::AtBase => of_at_base::addresses_are_judged(alloc),
         Example::Atp => of_atp::a_request_and_its_repeat_are_answered(alloc),
         Example::CableModel => of_cable_model::nobody_hears_what_is_lost(alloc),
+        Example::Cabled => of_cabled::a_router_probes(alloc),
         Example::CaptureFeed => of_capture_feed::a_cut_capture_has_its_packet(alloc),
         Example::Captures => of_captures::a_run_and_a_play_are_captured(alloc),
         Example::Ddp => of_ddp::a_ping_is_sent(alloc),
@@ -62,6 +67,7 @@ fn holds(alloc: Global, example: Example) -> Result<bool, Error> {
         Example::Learning => of_learning::a_router_asks_its_neighbour(alloc),
         Example::Nbp => of_nbp::a_lookup_is_answered(alloc),
         Example::Pcapng => of_pcapng::a_capture_has_these_bytes(alloc),
+        Example::Port => of_port::a_datagram_waits(alloc),
         Example::Router => of_router::a_router_hands_on(alloc),
         Example::Rtmp => of_rtmp::the_way_is_found(alloc),
         Example::Text => of_text::a_line_has_an_address_and_bytes(alloc),
@@ -104,7 +110,13 @@ fn tables_tell_the_way_and_what_to_ask(rt: HostRuntime) {
 
 #[test]
 fn stations_choose_addresses_send_and_hand_on(rt: HostRuntime) {
-    let examples = [Example::Aarp, Example::EndNode, Example::Router];
+    let examples = [
+        Example::Aarp,
+        Example::Port,
+        Example::EndNode,
+        Example::Router,
+        Example::Cabled,
+    ];
     assert_eq!(rt; first_wrong(rt.alloc(), &examples), None);
 }
 

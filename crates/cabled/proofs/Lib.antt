@@ -1,0 +1,3 @@
+mod Dressed
+mod Few
+mod Turns
