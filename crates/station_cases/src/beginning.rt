@@ -7,6 +7,7 @@ ghost use Rattle.station.specs.Ports.{is_planned};
 
 use crate::plan::{Plan, PlannedPort};
 use at_base::{Addr, Error, Name, Range};
+use cabled::{CabledRouter, Peers};
 use case_words::Stop;
 use end_node::EndNode;
 use live_node::LiveNode;
@@ -127,6 +128,29 @@ pub(crate) fn live_router_of<T: RouteTable>(
     let plans = plans_of(alloc, plan.ports.as_slice())?;
     let zones = plan.zones(alloc)?;
     live_router_by(alloc, plans.as_slice(), zones)
+}
+
+fn cabled_router_by<T: RouteTable>(
+    alloc: Global,
+    plans: &[PortPlan<'_>],
+    zones: ZoneTable,
+    peers: Peers,
+) -> Result<CabledRouter<T>, Stop> {
+    if !are_sound(plans) {
+        return Err(Stop::Unclear);
+    }
+    Ok(CabledRouter::new(alloc, plans, zones, peers)?)
+}
+
+/// The router of a plan, with its ports on cables.
+pub(crate) fn cabled_router_of<T: RouteTable>(
+    alloc: Global,
+    plan: &Plan,
+    peers: Peers,
+) -> Result<CabledRouter<T>, Stop> {
+    let plans = plans_of(alloc, plan.ports.as_slice())?;
+    let zones = plan.zones(alloc)?;
+    cabled_router_by(alloc, plans.as_slice(), zones, peers)
 }
 
 fn node_by(

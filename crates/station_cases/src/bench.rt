@@ -1,12 +1,14 @@
 //! The bench of a case, with which its commands are carried out.
 
 use crate::asking::ask_user;
-use crate::beginning::{live_node_of, live_router_of, node_of, router_of};
+use crate::beginning::{cabled_router_of, live_node_of, live_router_of, node_of, router_of};
 use crate::frames::{Frame, frame_of};
+use crate::on_cables;
 use crate::outputs::put_next;
 use crate::passing::{hear, let_pass};
 use crate::plan::Plan;
 use crate::routers::ask_router;
+use cabled::{CabledRouter, Peers};
 use case_words::{Answer, Bench, Stop, Words};
 use end_node::EndNode;
 use live_node::LiveNode;
@@ -22,6 +24,7 @@ enum Subject<T: RouteTable> {
     Nothing,
     Router(Router<T>),
     LiveRouter(LiveRouter<T>),
+    CabledRouter(CabledRouter<T>),
     Node(EndNode),
     LiveNode(LiveNode),
 }
@@ -53,6 +56,20 @@ fn live_subject_of<T: RouteTable>(
     }
 }
 
+/// The router of a plan with its ports on cables, which follows these rules.
+fn cabled_subject_of<T: RouteTable>(
+    alloc: Global,
+    plan: &Plan,
+    rules: &str,
+) -> Result<Subject<T>, Stop> {
+    let peers = match rules {
+        "played" => Peers::Played,
+        "real" => Peers::Real,
+        _ => return Err(Stop::Unclear),
+    };
+    Ok(Subject::CabledRouter(cabled_router_of(alloc, plan, peers)?))
+}
+
 /// The station of a plan, of this kind.
 fn subject_of<T: RouteTable>(
     alloc: Global,
@@ -61,6 +78,7 @@ fn subject_of<T: RouteTable>(
 ) -> Result<Subject<T>, Stop> {
     match words.word() {
         "live" => live_subject_of(alloc, plan, words.word()),
+        "cabled" => cabled_subject_of(alloc, plan, words.word()),
         "router" => Ok(Subject::Router(router_of(alloc, plan)?)),
         "node" => Ok(Subject::Node(node_of(alloc, plan)?)),
         _ => Err(Stop::Unclear),
@@ -70,11 +88,25 @@ fn subject_of<T: RouteTable>(
 impl<T: RouteTable> Subject<T> {
     fn hear(&mut self, alloc: Global, frame: &Frame, text: &mut String) -> Answer {
         match self {
-            Subject::Nothing => Err(Stop::Unclear),
+            Subject::Nothing | Subject::CabledRouter(_) => Err(Stop::Unclear),
             Subject::Router(router) => hear(alloc, router, frame, text),
             Subject::LiveRouter(live) => hear(alloc, live, frame, text),
             Subject::Node(node) => hear(alloc, node, frame, text),
             Subject::LiveNode(live) => hear(alloc, live, frame, text),
+        }
+    }
+
+    /// Lets a router with its ports on cables hear a frame.
+    fn hear_frame(
+        &mut self,
+        alloc: Global,
+        first: &[u8],
+        words: Words<'_>,
+        text: &mut String,
+    ) -> Answer {
+        match self {
+            Subject::CabledRouter(router) => on_cables::hear(alloc, router, first, words, text),
+            _ => Err(Stop::Unclear),
         }
     }
 
@@ -90,6 +122,7 @@ impl<T: RouteTable> Subject<T> {
             Subject::Nothing => Err(Stop::Unclear),
             Subject::Router(router) => let_pass(alloc, router, number, text),
             Subject::LiveRouter(live) => let_pass(alloc, live, number, text),
+            Subject::CabledRouter(router) => on_cables::let_pass(alloc, router, number, text),
             Subject::Node(node) => let_pass(alloc, node, number, text),
             Subject::LiveNode(live) => let_pass(alloc, live, number, text),
         }
@@ -101,6 +134,7 @@ impl<T: RouteTable> Subject<T> {
             Subject::Nothing => Err(Stop::Unclear),
             Subject::Router(router) => ask_router(router, words, text),
             Subject::LiveRouter(live) => ask_live_router(live, words, text),
+            Subject::CabledRouter(router) => ask_router(router.router().router(), words, text),
             Subject::Node(node) => ask_user(alloc, node, words, text),
             Subject::LiveNode(live) => ask_user(alloc, live, words, text),
         }
@@ -129,6 +163,16 @@ impl<T: RouteTable> Stations<T> {
     fn hear(&mut self, words: Words<'_>, text: &mut String) -> Answer {
         let frame = frame_of(self.alloc, self.bytes.as_slice(), words)?;
         self.subject.hear(self.alloc, &frame, text)?;
+        self.bytes.clear();
+        if text.as_str().is_empty() {
+            writeln!(text, "nothing")?;
+        }
+        Ok(())
+    }
+
+    fn hear_frame(&mut self, words: Words<'_>, text: &mut String) -> Answer {
+        let first = self.bytes.as_slice();
+        self.subject.hear_frame(self.alloc, first, words, text)?;
         self.bytes.clear();
         if text.as_str().is_empty() {
             writeln!(text, "nothing")?;
@@ -205,6 +249,7 @@ impl<T: RouteTable> Bench for Stations<T> {
             "begin" => self.begin(words),
             "bytes" => self.keep(&mut words),
             "hears" => self.hear(words, text),
+            "frame" => self.hear_frame(words, text),
             "tick" => self.tick(text),
             "ticks" => self.ticks(words.number()?, text),
             "pass" => self.pass(words.number()?, text),

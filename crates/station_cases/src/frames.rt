@@ -138,28 +138,32 @@ fn packet_bytes(alloc: Global, first: &[u8], words: &mut Words<'_>) -> Result<Ve
     }
 }
 
+/// What a frame carries, as a datagram or an AARP packet, in hexadecimal digits or by its fields. Its
+/// bytes begin with the given ones.
+pub(crate) fn on_cable(
+    alloc: Global,
+    first: &[u8],
+    mut words: Words<'_>,
+) -> Result<(Kind, Vec<u8>), Stop> {
+    if words.passes("aarp") {
+        return Ok((Kind::Aarp, packet_bytes(alloc, first, &mut words)?));
+    }
+    if words.passes("datagram") {
+        return Ok((Kind::Ddp, datagram(alloc, first, &mut words)?));
+    }
+    Ok((Kind::Ddp, joined(alloc, first, &mut words)?))
+}
+
 /// A frame, as `port 0 own` and then a datagram or an AARP packet, in hexadecimal digits or by its
 /// fields. Its bytes begin with the given ones.
 pub(crate) fn frame_of(alloc: Global, first: &[u8], mut words: Words<'_>) -> Result<Frame, Stop> {
     let port = words.named("port")?;
     let link = link(&mut words)?;
-    if words.passes("aarp") {
-        return Ok(Frame {
-            port,
-            link,
-            kind: Kind::Aarp,
-            bytes: packet_bytes(alloc, first, &mut words)?,
-        });
-    }
-    let bytes = if words.passes("datagram") {
-        datagram(alloc, first, &mut words)?
-    } else {
-        joined(alloc, first, &mut words)?
-    };
+    let (kind, bytes) = on_cable(alloc, first, words)?;
     Ok(Frame {
         port,
         link,
-        kind: Kind::Ddp,
+        kind,
         bytes,
     })
 }

@@ -7,6 +7,7 @@ mod beginning;
 mod bench;
 mod frames;
 mod nodes;
+mod on_cables;
 mod outputs;
 mod passing;
 mod plan;

@@ -1,7 +1,7 @@
 //! The outputs of stations, as text.
 
 use case_words::{put_hex, put_hw};
-use station::{DropCause, Next, Output, Outputs};
+use station::{DropCause, Kind, Next, Output, Outputs};
 use std::alloc::AllocError;
 
 /// The numbers of bytes of the fields of a datagram's header: hops and length, checksum, target
@@ -69,6 +69,14 @@ fn put_bytes(text: &mut String, bytes: &[u8], sizes: &[usize]) -> Result<(), All
         writeln!(text)?;
     }
     Ok(())
+}
+
+/// Appends the line of a packet of this kind.
+pub(crate) fn put_packet(text: &mut String, kind: Kind, bytes: &[u8]) -> Result<(), AllocError> {
+    match kind {
+        Kind::Ddp => put_bytes(text, bytes, &HEADER),
+        Kind::Aarp => put_bytes(text, bytes, &PACKET),
+    }
 }
 
 fn cause_word(cause: DropCause) -> &'static str {
