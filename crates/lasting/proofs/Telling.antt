@@ -128,7 +128,7 @@ module _ (i : Internet) (ok : Passes i) (s q : ℕ) (range : Span) (me : Addr) (
 
     short : length (bytes_of routing_data p) ≤ 586
     short =
-        packet_short q range me m rows (Some (bytes_of routing_data p))
+        packet_short Split q range me m rows (Some (bytes_of routing_data p))
         (subst (λ (o : Option RoutingData). IsPacket o (Some (bytes_of routing_data p))) (sym sent) spelled)
 
     fitting : Fitting (data_way 0 me).header
