@@ -1,7 +1,7 @@
 -- What is printed is read by the calls that read captures.
 use Rattle.std.proofs.Common.{◌≡◌, ℕ, ◌+◌, ◌/◌, ◌%◌, ◌^◌, ◌<◌, ◌≤◌, Bool, true, false, List, [], ◌∷◌, ◌++◌, length, take, drop, Some, Ok, refl, sym, ap, ◌∙◌, arith, append_assoc, nat_lt}
 use Rattle.std.proofs.lemmas.Bool.{eq-eqb, le-ltb, lt-ltb}
-use Rattle.std.proofs.lemmas.List.{drop_at, length-append, length-replicate}
+use Rattle.std.proofs.lemmas.List.{append-nil, drop_at, length-append, length-replicate}
 use Rattle.std.specs.List.{list_any}
 use Rattle.std.specs.Prelude.{slice_get}
 use Rattle.at_base.proofs.Fields.{bytes_again}
@@ -12,13 +12,13 @@ use Rattle.pcapng.proofs.Begun.{block_again, four_again, head_again, in_four, tw
 use Rattle.pcapng.proofs.Laid.{interface_laid, packet_laid}
 use Rattle.pcapng.specs.Blocks as blocks
 use Rattle.pcapng.specs.Blocks.{interface_total, magic, packet_total, section, unknown}
-use Rattle.pcapng.specs.Captures.{FitsPacket, frame_of, packet_bytes, section_bytes}
+use Rattle.pcapng.specs.Captures.{FitsPacket, frame_of, heartbeat_bytes, packet_bytes, section_bytes}
 use Rattle.pcapng.specs.Fields.{filling, four, four_bytes, gap, two_bytes}
 use Rattle.pcapng.specs.First.{IsFirst, first_block}
 use Rattle.pcapng.specs.Heads.{head_by, head_of, is_section, is_short, max_block, section_kind}
 use Rattle.pcapng.specs.Options.{Described, is_lost, option_at, options_of}
 use Rattle.pcapng.specs.Packets.{Packed, time_on}
-use Rattle.pcapng.specs.Sections.{Section, Told, begins, body_of, described_in, describes, ethernet, packet_in, packs, pcapng, two_words, unread}
+use Rattle.pcapng.specs.Sections.{Section, Told, beats, begins, body_of, described_in, describes, ethernet, packet_in, packs, pcapng, statistics_in, two_words, unread}
 use Rattle.pcapng.specs.declared.fault.Fault.TheVariants.{Cut}
 use Rattle.pcapng.specs.declared.form.Began.TheVariants as began
 use Rattle.pcapng.specs.declared.form.Forms.{Forms}
@@ -245,3 +245,23 @@ pub frame_told : (is : List Interface) (p : Packet) (bytes rest : List ℕ) → 
 frame_told is p bytes rest fits few there =
     let len = frame_length (frame_of p bytes) fits.to fits.from in
     packet_told is p.interface p.time p.lost (bytes_of frame (frame_of p bytes)) rest fits.interface fits.time (omega (arith, len, few)) there
+
+-- ---- heartbeats
+
+module _ (is : List Interface) (time : ℕ) (rest : List ℕ) (t : time < 2 ^ 64) (there : slice_get is 0 ≡ Some ethernet) where
+  abbrev after_zero : List ℕ
+  after_zero = four_bytes (time / 2 ^ 32) ++ four_bytes (time % 2 ^ 32)
+
+  statistics_say : statistics_in is Big (four_bytes 0 ++ after_zero) ≡ Ok (0, time)
+  statistics_say =
+      let a = four_again Big 0 after_zero (omega arith) in
+      let b = four_again Big (time / 2 ^ 32) (four_bytes (time % 2 ^ 32)) (omega (arith, t)) in
+      let c = four_again Big (time % 2 ^ 32) [] (omega arith) in
+      let d : four_bytes (time % 2 ^ 32) ++ [] ≡ four_bytes (time % 2 ^ 32) = append-nil (four_bytes (time % 2 ^ 32)) in
+      rw (a, b) (rw d at rw (c, there, time_told time t) refl)
+
+  -- a heartbeat says when
+  pub heartbeat_told : IsFirst (pcapng Big is) (heartbeat_bytes time ++ rest) (beats 0 time) (pcapng Big is) rest
+  heartbeat_told =
+      let says : body_of (pcapng Big is) (head_at 5 24) 5 (four_bytes 0 ++ after_zero) ≡ Ok (beats 0 time, pcapng Big is) = rw statistics_say refl in
+      in_section is 5 24 (four_bytes 0) after_zero rest refl (omega arith) refl refl refl (omega arith) _ _ says

@@ -1,10 +1,11 @@
 -- What a capture file has of cables and frames.
-use Rattle.std.specs.Prelude.{◌≡◌, ℕ, ◌+◌, ◌<◌, ◌^◌, List, ◌++◌, codes, length}
+use Rattle.std.specs.Prelude.{◌≡◌, ℕ, ◌+◌, ◌/◌, ◌%◌, ◌<◌, ◌^◌, List, ◌++◌, codes, length}
 use Rattle.std.specs.Fmt.{decimal}
 use Rattle.at_base.specs.Spelling.{bytes_of}
 use Rattle.at_base.specs.Texts.{range_text}
 use Rattle.ethertalk.specs.Frames.{Framed, frame}
 use Rattle.pcapng.specs.Blocks.{PacketBlock, interface, packet_block, section}
+use Rattle.pcapng.specs.Fields.{four_bytes}
 use Rattle.pcapng.specs.declared.packet.Packet.{Packet}
 
 -- the bytes of the section header
@@ -42,3 +43,9 @@ block_of p bytes = record {
 -- the bytes of the block of a packet with these bytes
 abbrev pub packet_bytes : Packet → List ℕ → List ℕ
 packet_bytes p bytes = bytes_of packet_block (block_of p bytes)
+
+-- the bytes of a heartbeat at a time: the statistics (type 5) of interface 0, 24 bytes, which say when they were made and
+-- nothing else
+abbrev pub heartbeat_bytes : ℕ → List ℕ
+heartbeat_bytes time =
+    four_bytes 5 ++ (four_bytes 24 ++ ((four_bytes 0 ++ (four_bytes (time / 2 ^ 32) ++ four_bytes (time % 2 ^ 32))) ++ four_bytes 24))

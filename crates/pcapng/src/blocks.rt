@@ -5,7 +5,7 @@ ghost use Rattle.at_base.specs.Spelling.{bytes_of};
 ghost use Rattle.ethertalk.specs.Frames.{frame, max_bytes};
 ghost use Rattle.pcapng.specs.Blocks as spec;
 ghost use Rattle.pcapng.specs.Blocks.{interface, interface_total, options};
-ghost use Rattle.pcapng.specs.Captures.{frame_of, packet_bytes, section_bytes};
+ghost use Rattle.pcapng.specs.Captures.{frame_of, heartbeat_bytes, packet_bytes, section_bytes};
 ghost use Rattle.pcapng.specs.Fields.{filling, four_bytes, two_bytes};
 
 use crate::fields::{filled, put_bytes, put_filling, put_four, put_two};
@@ -147,4 +147,24 @@ pub(crate) fn put_packet(
     put_filling(text, len)?;
     put_options(text, packet.lost)?;
     put_four(text, total)
+}
+
+/// Appends what a heartbeat has between its two lengths: the interface, which is the first one, and
+/// the time.
+fn put_statistics(text: &mut Vec<u8>, time: u64) -> Result<(), AllocError>
+    ensures { OnOk result (text.new.items ≡ text.old.items
+        ++ (four_bytes 0 ++ (four_bytes (time / 2 ^ 32) ++ four_bytes (time % 2 ^ 32)))) }
+{
+    put_four(text, 0)?;
+    put_time(text, time)
+}
+
+/// Appends a heartbeat.
+pub(crate) fn put_heartbeat(text: &mut Vec<u8>, time: u64) -> Result<(), AllocError>
+    ensures { OnOk result (text.new.items ≡ text.old.items ++ heartbeat_bytes time) }
+{
+    put_four(text, 5)?;
+    put_four(text, 24)?;
+    put_statistics(text, time)?;
+    put_four(text, 24)
 }

@@ -31,8 +31,9 @@ pub use laws::{interface_is_read, packet_is_read, section_is_read};
 pub use options::Described;
 pub use order::Order;
 pub use packet::{Packet, recall_fits};
-pub use printing::{print_interface, print_packet, print_section};
+pub use printing::{print_heartbeat, print_interface, print_packet, print_section};
 pub use reading_laws::{
-    header_is_opened, interface_is_described, packet_is_seen, record_is_seen, section_begins,
+    header_is_opened, heartbeat_is_heard, interface_is_described, packet_is_seen, record_is_seen,
+    section_begins,
 };
 pub use section::Section;

@@ -1,12 +1,12 @@
 //! Printing the blocks of a capture file.
 
 ghost use Rattle.std.specs.Prelude.{◌≤◌, length, OnOk};
-ghost use Rattle.pcapng.specs.Captures.{interface_bytes, packet_bytes, section_bytes};
+ghost use Rattle.pcapng.specs.Captures.{heartbeat_bytes, interface_bytes, packet_bytes, section_bytes};
 ghost use Rattle.ethertalk.specs.Frames.{max_bytes};
 ghost use Rattle.text.specs.Going.{Goes};
 ghost use Rattle.text.specs.Writing.{Prints};
 
-use crate::blocks::{put_interface, put_packet, put_section};
+use crate::blocks::{put_heartbeat, put_interface, put_packet, put_section};
 use crate::names::name_of;
 use crate::packet::Packet;
 use at_base::Error;
@@ -63,5 +63,19 @@ pub fn print_packet<W: Write>(
     ensures prints { Prints output.old.faults output.new.faults result }
 {
     put_packet(&mut output.text, packet, bytes)?;
+    output.pass_on()
+}
+
+/// Prints a heartbeat: statistics of the first interface, which say only that it is this time, in
+/// microseconds.
+///
+/// Errors: `Memory`; `WriteFault`, only if the writer failed. After an error, a part of the block
+/// may have been written.
+pub fn print_heartbeat<W: Write>(output: &mut Output<W>, time: u64) -> Result<(), Error>
+    ensures gone { OnOk result (Goes (W.contents output.old.writer) output.old.text.items
+        (heartbeat_bytes time) (W.contents output.new.writer) output.new.text.items) }
+    ensures prints { Prints output.old.faults output.new.faults result }
+{
+    put_heartbeat(&mut output.text, time)?;
     output.pass_on()
 }

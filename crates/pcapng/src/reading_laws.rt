@@ -5,10 +5,10 @@ ghost use Rattle.std.specs.Prelude.{◌≡◌, ◌++◌, ◌∷◌, ◌<◌, ◌
 ghost use Rattle.at_base.specs.Spelling.{bytes_of};
 ghost use Rattle.ethertalk.specs.Frames.{frame, max_bytes};
 ghost use Rattle.pcapng.specs.Captures.{FitsPacket, cable_name, frame_of};
-ghost use Rattle.pcapng.specs.Captures.{interface_bytes, packet_bytes, section_bytes};
+ghost use Rattle.pcapng.specs.Captures.{heartbeat_bytes, interface_bytes, packet_bytes, section_bytes};
 ghost use Rattle.pcapng.specs.Classics.{classic_interface};
 ghost use Rattle.pcapng.specs.First.{IsFirst};
-ghost use Rattle.pcapng.specs.Sections.{begins, classic, describes, ethernet, opens, packs, pcapng, unread};
+ghost use Rattle.pcapng.specs.Sections.{beats, begins, classic, describes, ethernet, opens, packs, pcapng, unread};
 ghost use Rattle.pcapng.specs.Spelled.{header_bytes, micros_of, record_bytes};
 ghost use Rattle.pcapng.specs.declared.form.Forms.{Forms};
 ghost use Rattle.pcapng.specs.declared.form.Forms.TheVariants.{Either};
@@ -49,6 +49,13 @@ pub fn packet_is_seen()
           bytes = bytes_of frame (frame_of p bytes);
         }))
         (pcapng Big is) rest }
+{}
+
+/// What `print_heartbeat` prints is a heartbeat of the first interface, with its time.
+pub fn heartbeat_is_heard()
+    ensures { (is : List Interface) (time : ℕ) (rest : List ℕ)
+        → time < 2 ^ 64 → slice_get is 0 ≡ Some ethernet
+        → IsFirst (pcapng Big is) (heartbeat_bytes time ++ rest) (beats 0 time) (pcapng Big is) rest }
 {}
 
 /// A classic capture's header opens a capture with its one interface, in either order of bytes.

@@ -4,5 +4,5 @@
 mod plans;
 mod seats;
 
-pub use plans::stations_of;
+pub use plans::{plans_of, stations_of, zones_of};
 pub use seats::{nodes_in, ranges_of, routers_in, seats_of};

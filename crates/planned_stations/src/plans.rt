@@ -30,6 +30,7 @@ fn plan_of<'a>(cables: &[Cable], port: &'a Port) -> PortPlan<'a>
     requires { IsTrue (is_port cables.now port.now) }
     ensures good { IsTrue (is_planned result) }
     ensures begins { planned result ≡ port_begun cables.now port.now }
+    ensures hardware { result.hw ≡ port.now.hardware }
 {
     PortPlan {
         range: cables[port.cable as usize - 1].range,
@@ -48,6 +49,8 @@ fn put_plans<'a>(
     requires { IsTrue (list_all (is_port cables.now) ports.now) }
     ensures number { OnOk result
         (length plans.new.items ≡ length plans.old.items + length ports.now) }
+    ensures hardware { OnOk result (map (λ p. p.hw) plans.new.items
+        ≡ map (λ p. p.hw) plans.old.items ++ map (λ p. p.hardware) ports.now) }
     ensures good { OnOk result (IsTrue (list_all is_planned plans.old.items)
         → IsTrue (list_all is_planned plans.new.items)) }
     ensures begins { OnOk result (map planned plans.new.items
@@ -100,8 +103,30 @@ fn put_all_zones(zones: &mut ZoneTable, cables: &[Cable], ports: &[Port]) -> Res
     }
 }
 
-/// The zones of the cables of a router's ports. Error: `Memory`.
-fn zones_of(alloc: Global, cables: &[Cable], router: &Router) -> Result<ZoneTable, Error>
+/// The plans of a router's ports, in order. The caller ensures that each port is on one of the cables.
+/// Error: `Memory`.
+pub fn plans_of<'a>(
+    alloc: Global,
+    cables: &[Cable],
+    ports: &'a [Port],
+) -> Result<Vec<PortPlan<'a>>, Error>
+    requires { IsTrue (list_all (is_port cables.now) ports.now) }
+    ensures good { IfOk result (λ plans. IsTrue (list_all is_planned plans.items)) }
+    ensures begins { IfOk result (λ plans.
+        map planned plans.items ≡ map (port_begun cables.now) ports.now) }
+    ensures hardware { IfOk result (λ plans.
+        map (λ p. p.hw) plans.items ≡ map (λ p. p.hardware) ports.now) }
+    ensures number { IfOk result (λ plans. length plans.items ≡ length ports.now) }
+    ensures refused { IsOkUnless result Error.Memory }
+{
+    let mut plans = Vec::new(alloc);
+    put_plans(&mut plans, cables, ports)?;
+    Ok(plans)
+}
+
+/// The zones of the cables of a router's ports: what its zone table has before the first tick. The
+/// caller ensures that the cables and the router are those of a plan. Error: `Memory`.
+pub fn zones_of(alloc: Global, cables: &[Cable], router: &Router) -> Result<ZoneTable, Error>
     requires sound { IsTrue (is_router cables.now router.now) }
     requires cables { IsTrue (list_all is_cable cables.now) }
     ensures ok { IfOk result (λ zones. zones ≡ with_cables cables.now [] router.now.port) }
@@ -123,8 +148,7 @@ fn router_of<T: RouteTable>(
     ensures ok { IfOk result (λ live. live ≡ router_begun cables.now router.now) }
     ensures refused { IsOkUnless result Error.Memory }
 {
-    let mut plans = Vec::new(alloc);
-    put_plans(&mut plans, cables, router.port.as_slice())?;
+    let plans = plans_of(alloc, cables, router.port.as_slice())?;
     let zones = zones_of(alloc, cables, router)?;
     LiveRouter::new(alloc, plans.as_slice(), zones)
 }
