@@ -1,10 +1,12 @@
 -- What is printed is read by the calls that read captures.
-use Rattle.std.proofs.Common.{◌≡◌, ℕ, ◌+◌, ◌/◌, ◌%◌, ◌^◌, ◌<◌, ◌≤◌, Bool, true, false, List, [], ◌∷◌, ◌++◌, length, take, drop, Some, Ok, refl, sym, ap, ◌∙◌, arith, append_assoc, nat_lt}
+use Rattle.std.proofs.Common.{◌≡◌, ℕ, ◌+◌, ◌/◌, ◌%◌, ◌^◌, ◌<◌, ◌≤◌, Bool, true, false, List, [], ◌∷◌, ◌++◌, length, take, drop, Some, Result, Ok, refl, subst, sym, ap, ◌∙◌, arith, append_assoc, nat_lt}
 use Rattle.std.proofs.lemmas.Bool.{eq-eqb, le-ltb, lt-ltb}
 use Rattle.std.proofs.lemmas.List.{append-nil, drop_at, length-append, length-replicate}
+use Rattle.std.specs.Int.{w32}
 use Rattle.std.specs.List.{list_any}
 use Rattle.std.specs.Prelude.{slice_get}
 use Rattle.at_base.proofs.Fields.{bytes_again}
+use Rattle.at_base.specs.Reading.{◌>>=◌}
 use Rattle.at_base.specs.Spelling.{bytes_of}
 use Rattle.ethertalk.proofs.Values.{frame_length}
 use Rattle.ethertalk.specs.Frames.{frame, max_bytes}
@@ -17,8 +19,10 @@ use Rattle.pcapng.specs.Fields.{filling, four, four_bytes, gap, two_bytes}
 use Rattle.pcapng.specs.First.{IsFirst, first_block}
 use Rattle.pcapng.specs.Heads.{head_by, head_of, is_section, is_short, max_block, section_kind}
 use Rattle.pcapng.specs.Options.{Described, is_lost, option_at, options_of}
-use Rattle.pcapng.specs.Packets.{Packed, time_on}
+use Rattle.pcapng.specs.Orders.{number_of}
+use Rattle.pcapng.specs.Packets.{Packed, interface_at, time_on}
 use Rattle.pcapng.specs.Sections.{Section, Told, beats, begins, body_of, described_in, describes, ethernet, packet_in, packs, pcapng, statistics_in, two_words, unread}
+use Rattle.pcapng.specs.declared.fault.Fault.{Fault}
 use Rattle.pcapng.specs.declared.fault.Fault.TheVariants.{Cut}
 use Rattle.pcapng.specs.declared.form.Began.TheVariants as began
 use Rattle.pcapng.specs.declared.form.Forms.{Forms}
@@ -248,20 +252,30 @@ frame_told is p bytes rest fits few there =
 
 -- ---- heartbeats
 
-module _ (is : List Interface) (time : ℕ) (rest : List ℕ) (t : time < 2 ^ 64) (there : slice_get is 0 ≡ Some ethernet) where
-  abbrev after_zero : List ℕ
-  after_zero = four_bytes (time / 2 ^ 32) ++ four_bytes (time % 2 ^ 32)
+module _ (is : List Interface) (index time : ℕ) (i : index < 2 ^ 32) (t : time < 2 ^ 64) (there : slice_get is index ≡ Some ethernet) where
+  abbrev after_index : List ℕ
+  after_index = four_bytes (time / 2 ^ 32) ++ four_bytes (time % 2 ^ 32)
 
-  statistics_say : statistics_in is Big (four_bytes 0 ++ after_zero) ≡ Ok (0, time)
+  abbrev said : ℕ → ℕ → ℕ → Result (ℕ × ℕ) Fault
+  said k high low = interface_at is k >>= λ x. Ok (k, time_on x (two_words high low))
+
+  statistics_say : statistics_in is Big (four_bytes index ++ after_index) ≡ Ok (index, time)
   statistics_say =
-      let a = four_again Big 0 after_zero (omega arith) in
+      let a = four_again Big index after_index i in
       let b = four_again Big (time / 2 ^ 32) (four_bytes (time % 2 ^ 32)) (omega (arith, t)) in
-      let c = four_again Big (time % 2 ^ 32) [] (omega arith) in
-      let d : four_bytes (time % 2 ^ 32) ++ [] ≡ four_bytes (time % 2 ^ 32) = append-nil (four_bytes (time % 2 ^ 32)) in
-      rw (a, b) (rw d at rw (c, there, time_told time t) refl)
+      let whole : four_bytes (time % 2 ^ 32) ++ [] ≡ four_bytes (time % 2 ^ 32) = append-nil (four_bytes (time % 2 ^ 32)) in
+      let c : number_of Big w32 (four_bytes (time % 2 ^ 32)) ≡ Ok (time % 2 ^ 32, []) =
+      subst (λ l. number_of Big w32 l ≡ Ok (time % 2 ^ 32, [])) whole (four_again Big (time % 2 ^ 32) [] (omega arith)) in
+      ap (λ (r : Result (ℕ × List ℕ) Fault). r >>= λ x. number_of Big w32 x.1 >>= λ high. number_of Big w32 high.1 >>= λ low. said x.0 high.0 low.0) a
+      ∙ ap (λ (r : Result (ℕ × List ℕ) Fault). r >>= λ high. number_of Big w32 high.1 >>= λ low. said index high.0 low.0) b
+      ∙ ap (λ (r : Result (ℕ × List ℕ) Fault). r >>= λ low. said index (time / 2 ^ 32) low.0) c
+      ∙ rw (there, time_told time t) refl
 
-  -- a heartbeat says when
-  pub heartbeat_told : IsFirst (pcapng Big is) (heartbeat_bytes time ++ rest) (beats 0 time) (pcapng Big is) rest
-  heartbeat_told =
-      let says : body_of (pcapng Big is) (head_at 5 24) 5 (four_bytes 0 ++ after_zero) ≡ Ok (beats 0 time, pcapng Big is) = rw statistics_say refl in
-      in_section is 5 24 (four_bytes 0) after_zero rest refl (omega arith) refl refl refl (omega arith) _ _ says
+-- a heartbeat says when
+pub heartbeat_told : (is : List Interface) (time : ℕ) (rest : List ℕ) → time < 2 ^ 64 → slice_get is 0 ≡ Some ethernet
+    → IsFirst (pcapng Big is) (heartbeat_bytes time ++ rest) (beats 0 time) (pcapng Big is) rest
+heartbeat_told is time rest t there =
+    let after = four_bytes (time / 2 ^ 32) ++ four_bytes (time % 2 ^ 32) in
+    let said = statistics_say is 0 time (omega arith) t there in
+    let says : body_of (pcapng Big is) (head_at 5 24) 5 (four_bytes 0 ++ after) ≡ Ok (beats 0 time, pcapng Big is) = rw said refl in
+    in_section is 5 24 (four_bytes 0) after rest refl (omega arith) refl refl refl (omega arith) _ _ says

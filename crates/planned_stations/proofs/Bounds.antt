@@ -1,5 +1,7 @@
 -- The numbers of a sound plan fit into seats and images.
-use Rattle.std.proofs.Common.{◌≡◌, ℕ, ◌≤◌, true, ◌&&◌, IsTrue, List, [], ◌∷◌, length, nat_le, refl, arith, leb-true, le-leb}
+use Rattle.std.proofs.Common.{◌≡◌, ℕ, zero, suc, ◌≤◌, Bool, true, ◌&&◌, IsTrue, List, [], ◌∷◌, Option, Some, None, option_map, length, nat_le, refl, sym, arith, leb-true, le-leb, slice_get}
+use Rattle.std.specs.Borrow.{Bor}
+use Rattle.std.specs.Prelude.{IfSome}
 use Rattle.std.specs.List.{list_all}
 use Rattle.std.proofs.lemmas.Bool.{and_parts, and_from}
 use Rattle.internet_file.specs.Files.{Planned}
@@ -44,6 +46,18 @@ module _ (cables : List Cable) (few : length cables ≤ 200) where
   nodes_low (n ∷ ns) h =
       let parts = and_parts (is_node cables n) (list_all (is_node cables) ns) h in
       and_from (is_low_node n) (list_all is_low_node ns) (low_number n.cable n.tries parts.0) (nodes_low ns parts.1)
+
+-- what holds of each of a list holds of the one at an index
+pub holds_at : {X : Type 0} (p : X → Bool) (xs : List X) (k : ℕ) (x : X) → IsTrue (list_all p xs) → slice_get xs k ≡ Some x → IsTrue (p x)
+holds_at p [] k x h e = absurd cc
+holds_at p (y ∷ ys) zero x h e = let same : y ≡ x = cc in rw (← same) (and_parts (p y) (list_all p ys) h).0
+holds_at p (y ∷ ys) (suc k) x h e = holds_at p ys k x (and_parts (p y) (list_all p ys) h).1 e
+
+-- what holds of each of a list holds of the one that was borrowed at an index, if there is one
+pub found_holds : {X : Type 0} (p : X → Bool) (xs : List X) (k : ℕ) (found : Option (Bor X)) → IsTrue (list_all p xs)
+    → option_map (λ r. r.now) found ≡ slice_get xs k → IfSome found (λ r. IsTrue (p r.now))
+found_holds p xs k None h e = tt
+found_holds p xs k (Some r) h e = holds_at p xs k r.now h (sym e)
 
 pub low_routers : (p : Planned) → IsSound p → IsTrue (list_all is_low_router p.routers)
 low_routers p sound = routers_low p.cables sound.few_cables p.routers sound.routers

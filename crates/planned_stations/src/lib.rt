@@ -5,4 +5,4 @@ mod plans;
 mod seats;
 
 pub use plans::{plans_of, stations_of, zones_of};
-pub use seats::{nodes_in, ranges_of, routers_in, seats_of};
+pub use seats::{nodes_in, ranges_of, router_at, routers_in, seats_of};

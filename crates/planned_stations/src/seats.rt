@@ -1,8 +1,9 @@
 //! The seats of a plan's stations on its cables.
 
-ghost use Rattle.std.specs.Prelude.{◌≡◌, ◌≤◌, ◌+◌, ◌++◌, length, map, IfOk, IsOkUnless, IsTrue};
+ghost use Rattle.std.specs.Prelude.{◌≡◌, ◌≤◌, ◌+◌, ◌++◌, length, map, option_map, slice_get, IfOk, IfSome, IsOkUnless, IsTrue};
 ghost use Rattle.std.specs.Prelude.{OnOk};
 ghost use Rattle.std.specs.List.{list_all};
+ghost use Rattle.internet_file.specs.Sound.{is_router};
 ghost use Rattle.planned_stations.specs.Planning.{is_low_node, is_low_port, is_low_router};
 ghost use Rattle.planned_stations.specs.Seating.{node_seats, plan_seats, port_seats, router_seats};
 ghost use Rattle.at_base.specs.Limits.{max_ports};
@@ -80,8 +81,26 @@ pub fn routers_in(plan: &Plan) -> &[Router]
     ensures value { result.now ≡ plan.now.routers }
     ensures few { length result.now ≤ 200 }
     ensures low { IsTrue (list_all is_low_router result.now) }
+    ensures sound { IsTrue (list_all (is_router plan.now.cables) result.now) }
 {
     plan.routers()
+}
+
+/// The router with this index, if there is one.
+fn found(routers: &[Router], index: usize) -> Option<&Router>
+    ensures { option_map (λ r. r.now) result ≡ slice_get routers.now index }
+{
+    routers.get(index)
+}
+
+/// The router of a plan with this index, from 0, if there is one. It has 1 to 16 ports, each on a cable
+/// of the plan.
+pub fn router_at(plan: &Plan, index: usize) -> Option<&Router>
+    ensures value { option_map (λ r. r.now) result ≡ slice_get plan.now.routers index }
+    ensures sound { IfSome result (λ r. IsTrue (is_router plan.now.cables r.now)) }
+    ensures low { IfSome result (λ r. IsTrue (is_low_router r.now)) }
+{
+    found(routers_in(plan), index)
 }
 
 /// The nodes of a plan, at most 200, whose cable numbers are at most 200.

@@ -1,5 +1,6 @@
 use Rattle.std.proofs.Common.{IsTrue, subst, sym}
 use Rattle.std.specs.List.{list_all}
+use Rattle.internet_file.specs.Sound.{is_router}
 use Rattle.planned_stations.proofs.Bounds.{low_routers}
 use Rattle.planned_stations.specs.Planning.{is_low_router}
 use Rattle.planned_stations.proofs.seats.routers_in.Goals as goal
