@@ -3,3 +3,4 @@ pub mod Listed
 pub mod Taken
 pub mod Values
 pub mod Valid
+pub mod OfOne

@@ -64,14 +64,19 @@ ports_on cables (p ∷ ps) h =
     and_from (nat_lt (p.cable - 1) (length cables)) (list_all (λ p. nat_lt (p.cable - 1) (length cables)) ps)
     (on_one cables p.cable p.tries parts.0) (ports_on cables ps parts.1)
 
+-- A router of a plan is on its cables.
+pub one_on : (cables : List Cable) (r : Router) → IsTrue (is_router cables r) → IsTrue (is_on (length cables) r)
+one_on cables r h =
+    let whole = and_parts (is_between 1 16 (length r.port) && list_all (is_port cables) r.port) (are_apart cables r.port) h in
+    let ports = and_parts (is_between 1 16 (length r.port)) (list_all (is_port cables) r.port) whole.0 in
+    ports_on cables r.port ports.1
+
 pub routers_on : (cables : List Cable) (rs : List Router) → IsTrue (list_all (is_router cables) rs)
     → IsTrue (list_all (is_on (length cables)) rs)
 routers_on cables [] h = refl
 routers_on cables (r ∷ rs) h =
     let parts = and_parts (is_router cables r) (list_all (is_router cables) rs) h in
-    let whole = and_parts (is_between 1 16 (length r.port) && list_all (is_port cables) r.port) (are_apart cables r.port) parts.0 in
-    let ports = and_parts (is_between 1 16 (length r.port)) (list_all (is_port cables) r.port) whole.0 in
-    and_from (is_on (length cables) r) (list_all (is_on (length cables)) rs) (ports_on cables r.port ports.1)
+    and_from (is_on (length cables) r) (list_all (is_on (length cables)) rs) (one_on cables r parts.0)
     (routers_on cables rs parts.1)
 
 pub nodes_on : (cables : List Cable) (ns : List Node) → IsTrue (list_all (is_node cables) ns)

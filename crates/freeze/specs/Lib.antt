@@ -2,3 +2,4 @@ pub mod Fits
 pub mod Freezing
 pub mod Valid
 pub mod Frozen
+pub mod Alone

@@ -28,7 +28,7 @@ use std::alloc::Global;
 use table_image::{Image, Version};
 
 /// A fact for the prover: every plan is sound. Does nothing.
-fn recall_sound(plan: &Plan)
+pub(crate) fn recall_sound(plan: &Plan)
     ensures { IsSound plan.now }
 {
     let _cables = plan.cables();
@@ -103,7 +103,7 @@ fn nodes_by<T: RouteTable>(
 }
 
 /// The cables of a plan. Error: `Memory`.
-fn cables_by(alloc: Global, plan: &Plan) -> Result<Vec<table_image::Cable>, Error>
+pub(crate) fn cables_by(alloc: Global, plan: &Plan) -> Result<Vec<table_image::Cable>, Error>
     ensures ok { IfOk result (λ frozen. frozen.items ≡ map frozen_of plan.now.cables) }
     ensures valid { (v : VersionValue)
         → IsNotInV1 v (list_any (λ c. is_long (length c.zones)) plan.now.cables)

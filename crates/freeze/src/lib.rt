@@ -2,6 +2,7 @@
 //! nodes.
 #![tactic(auto)]
 
+mod alone;
 mod cables;
 mod fits;
 mod image;
@@ -11,6 +12,7 @@ mod nodes;
 mod routers;
 mod tables;
 
+pub use alone::image_of_one;
 pub use cables::freeze_cable;
 pub use image::image_of;
 pub use needs::needs_version_2;

@@ -12,14 +12,14 @@ use station::Member;
 use table_image::Version;
 
 /// Whether there are more zones than a range has in an image of version 1.
-fn is_long(zones: usize) -> bool
+pub(crate) fn is_long(zones: usize) -> bool
     ensures { result ≡ spec.is_long zones }
 {
     zones > Version::V1.zone_limit()
 }
 
 /// Whether one of the cables has more zones than that.
-fn has_long_cable(cables: &[Cable]) -> bool
+pub(crate) fn has_long_cable(cables: &[Cable]) -> bool
     ensures { result ≡ list_any (λ c. spec.is_long (length c.zones)) cables.now }
 {
     cables.iter().any(|cable| is_long(cable.zones.len()))

@@ -79,7 +79,7 @@ fn put_indexes(indexes: &mut Vec<u8>, ports: &[Port]) -> Result<(), Error>
 }
 
 /// The indexes, from 0, of the cables of a router's ports.
-fn indexes_of(alloc: Global, router: &Router) -> Result<Vec<u8>, Error>
+pub(crate) fn indexes_of(alloc: Global, router: &Router) -> Result<Vec<u8>, Error>
     requires { IsTrue (is_low_router router.now) }
     ensures ok { IfOk result (λ indexes. indexes.items ≡ spec.cables_by router.now) }
     ensures refused { IsOkUnless result Error.Memory }
