@@ -1,0 +1,3 @@
+pub mod Coming
+pub mod Blocks
+pub mod Running

@@ -1,0 +1,4 @@
+pub mod Called
+pub mod Events
+pub mod Streams
+pub mod Run

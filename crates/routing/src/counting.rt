@@ -1,0 +1,146 @@
+//! A router that counts what it drops.
+
+ghost use Rattle.std.specs.Prelude.{◌≡◌, ◌∷◌, [], OnOk};
+ghost use Rattle.routing.specs.Events.{Heard, Tick, ticks};
+ghost use Rattle.routing.specs.Run.{Happened};
+ghost use Rattle.routing.specs.Streams.{puts_bytes};
+ghost use Rattle.text.specs.Going.{Goes};
+ghost use Rattle.ethertalk.specs.Frames.{framed};
+ghost use Rattle.text.specs.Writing.{Prints};
+
+use crate::printing::print_puts;
+use crate::watch::Watch;
+use at_base::Error;
+use cabled::{CabledRouter, Puts};
+use ethertalk::Frame;
+use rtmp::Routes;
+use std::alloc::Global;
+use std::io::Write;
+use std::marker::Model;
+use text::Output;
+
+/// A router, and how many events it dropped, since there was no memory for them.
+#[derive(Drop)]
+pub(crate) struct Counting {
+    router: CabledRouter<Routes>,
+    puts: Puts,
+    dropped: u64,
+    ticks: u64,
+}
+
+impl Model for Counting {
+    ghost use Rattle.std.specs.Prelude.{◌≡◌, []};
+    ghost use Rattle.routing.specs.Run.{Counted};
+
+    ghost Value = { Counted };
+
+    ghost view = { λ c. record { router = c.router; dropped = c.dropped } };
+
+    ghost invariant = { λ c. c.puts.items ≡ [] };
+}
+
+/// Prints what was put at a time, and forgets it.
+fn print_all<W: Write>(
+    output: &mut Output<W>,
+    router: &CabledRouter<Routes>,
+    puts: &mut Puts,
+    time: u64,
+) -> Result<(), Error>
+    ensures gone { OnOk result (Goes (W.contents output.old.writer) output.old.text.items
+        (puts_bytes router.now.ports time puts.old.items)
+        (W.contents output.new.writer) output.new.text.items) }
+    ensures prints { Prints output.old.faults output.new.faults result }
+    ensures none { puts.new.items ≡ [] }
+{
+    let printed = print_puts(output, router.ports(), time, puts.as_slice());
+    puts.clear();
+    printed
+}
+
+impl Counting {
+    /// A router that has dropped nothing.
+    pub(crate) fn new(alloc: Global, router: CabledRouter<Routes>) -> Counting
+        ensures { result ≡ record { router = router; dropped = 0 } }
+    {
+        Counting {
+            router,
+            puts: Puts::new(alloc),
+            dropped: 0,
+            ticks: 0,
+        }
+    }
+
+    /// The router.
+    pub(crate) fn router(&self) -> &CabledRouter<Routes>
+        ensures { result.now ≡ self.now.router }
+    {
+        &self.router
+    }
+
+    /// How many events were dropped.
+    pub(crate) fn dropped(&self) -> u64
+        ensures { result ≡ self.now.dropped }
+    {
+        self.dropped
+    }
+
+    /// A tick, at a time.
+    fn tick<W: Write>(&mut self, output: &mut Output<W>, time: u64) -> Result<(), Error>
+        ensures came { OnOk result (Happened time self.old (Tick ∷ []) self.new
+            (W.contents output.old.writer) output.old.text.items
+            (W.contents output.new.writer) output.new.text.items) }
+        ensures prints { Prints output.old.faults output.new.faults result }
+    {
+        match self.router.tick(&mut self.puts) {
+            Ok(()) => print_all(output, &self.router, &mut self.puts, time),
+            Err(_) => {
+                self.dropped = self.dropped.saturating_add(1);
+                Ok(())
+            }
+        }
+    }
+
+    /// So many ticks, at a time.
+    pub(crate) fn pass<W: Write, S: Watch>(
+        &mut self,
+        output: &mut Output<W>,
+        watch: &mut S,
+        time: u64,
+        count: u16,
+    ) -> Result<(), Error>
+        ensures came { OnOk result (Happened time self.old (ticks count) self.new
+            (W.contents output.old.writer) output.old.text.items
+            (W.contents output.new.writer) output.new.text.items) }
+        ensures prints { Prints output.old.faults output.new.faults result }
+    {
+        if count == 0 {
+            return Ok(());
+        }
+        self.tick(output, time)?;
+        self.ticks = self.ticks.saturating_add(1);
+        watch.ticked(&self.router, self.ticks, self.dropped);
+        self.pass(output, watch, time, count - 1)
+    }
+
+    /// A frame on the cable of a port, at a time.
+    pub(crate) fn hear<W: Write>(
+        &mut self,
+        output: &mut Output<W>,
+        time: u64,
+        port: u8,
+        frame: &Frame<'_>,
+    ) -> Result<(), Error>
+        ensures came { OnOk result (Happened time self.old (Heard port (framed frame.now) ∷ [])
+            self.new (W.contents output.old.writer) output.old.text.items
+            (W.contents output.new.writer) output.new.text.items) }
+        ensures prints { Prints output.old.faults output.new.faults result }
+    {
+        match self.router.hear(port, frame, &mut self.puts) {
+            Ok(()) => print_all(output, &self.router, &mut self.puts, time),
+            Err(_) => {
+                self.dropped = self.dropped.saturating_add(1);
+                Ok(())
+            }
+        }
+    }
+}
