@@ -49,6 +49,8 @@ fn of_both<T: Again>(alloc: Global, one: &[T], other: &[T]) -> Result<Listed<T>,
 /// an image may have; else `Memory`.
 pub fn join(alloc: Global, one: &Image, other: &Image) -> Result<Image, Error>
     ensures ok { IfOk result (λ i. i ≡ joined one.now other.now) }
+    ensures fits { IfOk result (λ i. (have_same_cables one.now other.now ≡ true)
+        × (are_too_many one.now other.now ≡ false)) }
     ensures cables { (result ≡ Err (Error.NoSuch What.Cable))
         ↔ (have_same_cables one.now other.now ≡ false) }
     ensures full { (result ≡ Err Error.Full) ↔ ((have_same_cables one.now other.now ≡ true)
