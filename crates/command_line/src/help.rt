@@ -2,7 +2,7 @@
 
 pub(crate) const ABOUT: &str =
     "Plays AppleTalk internets, audits images of their tables, runs scripts over these, and \
-    reads, shows and draws the tables of an internet that stands.";
+    reads, shows, draws and joins the tables of an internet that stands.";
 
 pub(crate) const AFTER_HELP: &str = "Without a command, atalk audits the image on standard input.
 
@@ -14,7 +14,8 @@ Exit status:
   3  out of memory, or reading or writing failed
 
 A refusal prints `refused: N` on standard error:
-  11  more happens in a play than there is room for
+  8   the cables of an image aren't those of the image to which it is joined
+  11  more happens in a play, or more is joined, than there is room for
   12  the input is no image
   13  the input is no internet file, or no tables file
   14  out of memory
@@ -57,20 +58,20 @@ pub(crate) const MAKE: &str =
 
 pub(crate) const SHOW: &str = "Prints the tables file of an image";
 
+pub(crate) const DRAW: &str = "Prints a drawing of an image, in the language of Graphviz' dot";
+
 pub(crate) const JOIN: &str =
     "Joins images of parts of one internet, over the same cables, into one, and prints the verdict \
     on it";
 
 pub(crate) const ROUTE: &str = "Is a router of an internet file, on real cables";
 
-pub(crate) const DRAW: &str = "Prints a drawing of an image, in the language of Graphviz' dot";
-
 pub(crate) const PARTS: &str =
     "The images, of which each has some of the routers and nodes; - is standard input";
 
 pub(crate) const ROUTED: &str = "The internet file, which may not be -";
 
-pub(crate) const ROUTER: &str = "Is this router of the file: its number, as verdicts name it";
+pub(crate) const ROUTER: &str = "The number of the router, as verdicts name it";
 
 pub(crate) const CABLE: &str =
     "The interface that carries the cable with this number, in place of `cable K`; may be given for \
