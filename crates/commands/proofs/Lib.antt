@@ -1,3 +1,4 @@
+mod Joined
 pub mod Known
 pub mod Images
 pub mod Returned
