@@ -1,4 +1,3 @@
-mod Joined
 pub mod Known
 pub mod Images
 pub mod Returned
