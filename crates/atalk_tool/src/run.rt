@@ -183,13 +183,7 @@ fn perform<'a, R: Files + Input + Print + Eprint + AllocGlobal>(
     match request.job {
         Job::Audit(source) => audit_source(rt, Audited { source, name: None }, telling),
         Job::Trace(image, script, capture) => {
-            let wanted = Wanted::of(None, capture);
-            let sources = Sources {
-                image,
-                script,
-                wanted,
-            };
-            trace_sources(rt, sources, telling)
+            trace_sources(rt, Sources::of(image, script, capture), telling)
         }
         Job::Play(source, image, version, capture) => {
             let wanted = Wanted::of(image, capture);
