@@ -1,6 +1,6 @@
 //! A router of an internet file, on real cables.
 
-ghost use Rattle.std.specs.Prelude.{◌≡◌};
+ghost use Rattle.std.specs.Prelude.{◌≡◌, true};
 
 use crate::performed::Performed;
 use clap::error::ErrorKind as ParseError;
