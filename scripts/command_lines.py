@@ -105,6 +105,10 @@ def named(words):
     return {part[0]: any(len(one) > 1 for one in parts) for part in parts if part}
 
 
+# An option of the synopsis that must be given, with its value
+REQUIRED = r"--[\w-]+ [A-Z]+"
+
+
 def of_synopsis(lines):
     """What a page's synopsis says: of an option's names the last one alone."""
     text = " ".join("\n" if kind == "br" else words for kind, words in lines)
@@ -116,9 +120,10 @@ def of_synopsis(lines):
             continue
         commands.append(words[0])
         options[words[0]] = {}
-        for bracket in re.findall(r"\[(-[^]]*)\]", line):
-            options[words[0]].update(list(named(bracket).items())[-1:])
-        operands[words[0]] = re.findall(r"[\w-]+", re.sub(r"\[-[^]]*\]", "", line))[2:]
+        rest = re.sub(r"\[-[^]]*\]", "", line)
+        for option in re.findall(r"\[(-[^]]*)\]", line) + re.findall(REQUIRED, rest):
+            options[words[0]].update(list(named(option).items())[-1:])
+        operands[words[0]] = re.findall(r"[\w-]+", re.sub(REQUIRED, "", rest))[2:]
     return Said(commands, options, operands)
 
 

@@ -29,6 +29,8 @@ pub struct Evidence<'a> {
     pub judged: Option<Judged>,
     /// Whether it was asked of tables that pass whether they are settled.
     pub settled: bool,
+    /// Whether the input is one of the images that are joined.
+    pub joins: bool,
     /// The file for the image or the capture, if it couldn't be written.
     pub missed: Option<Missed<'a>>,
     /// What the file was read as that was played or made.
@@ -55,6 +57,7 @@ impl<'a> Evidence<'a> {
             refused: None,
             judged: None,
             settled: false,
+            joins: false,
             missed: None,
             format: Format::Internet,
             undone: None,
@@ -219,8 +222,23 @@ fn explain_source(rt: &impl Eprint, evidence: &Evidence<'_>) -> io::Result<()> {
     }
 }
 
-/// Writes what is wrong with a text that was refused: the faults of an internet file or a tables file,
-/// or the bad line of a script; nothing of another input.
+/// Writes why an image isn't joined to the one of those before it.
+fn write_unjoined<W: Write>(writer: &mut W, name: &str, error: Error) -> io::Result<()> {
+    match error {
+        Error::Full => writeln!(
+            writer,
+            "atalk: {name}: with this image there are more than 200 routers, or more than 200 nodes"
+        ),
+        _ => writeln!(
+            writer,
+            "atalk: {name}: its cables are not those of the first image, with the same ranges and \
+            zones, in the same order"
+        ),
+    }
+}
+
+/// Writes what is wrong with an input that was refused: the faults of an internet file or a tables
+/// file, the bad line of a script, or why an image isn't joined; nothing of another input.
 pub fn write_refused<W: Write>(
     alloc: Global,
     writer: &mut W,
@@ -235,6 +253,9 @@ pub fn write_refused<W: Write>(
             let text = bytes_of(&evidence.script).unwrap_or(&[]);
             script_advice::write_bad_line(alloc, writer, name.as_str(), text, line)
         }
+        (error @ (Error::NoSuch(_) | Error::Full), _) if evidence.joins => {
+            write_unjoined(writer, name.as_str(), error)
+        }
         (Error::BadFile(_, _), Some(AtFault { refused, text })) => {
             write!(writer, "atalk: {name}: ")?;
             file_advice::write(alloc, writer, evidence.format, text.as_slice(), refused)
@@ -243,7 +264,7 @@ pub fn write_refused<W: Write>(
     }
 }
 
-/// Explains what is wrong with a text.
+/// Explains what is wrong with a text, or why an image isn't joined.
 fn explain_text(rt: &(impl Eprint + AllocGlobal), evidence: &Evidence<'_>) -> io::Result<()> {
     let mut words = Vec::new(rt.alloc());
     write_refused(rt.alloc(), &mut words, evidence)?;
@@ -278,7 +299,7 @@ fn explain_error(
     evidence: &Evidence<'_>,
 ) -> io::Result<()> {
     match error {
-        Error::Full => eprintln!(rt;
+        Error::Full if !evidence.joins => eprintln!(rt;
             "atalk: more than 4000000 things happened in the play; plan fewer ticks or stations"
         ),
         Error::WriteFault => match evidence.missed {

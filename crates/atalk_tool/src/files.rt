@@ -5,7 +5,7 @@ ghost use Rattle.std.specs.Prelude.{◌≡◌, ◌⊎◌, Err, IfErr, true};
 use crate::performed::Performed;
 use at_base::Error;
 use clap::error::ErrorKind as ParseError;
-use command_line::{Job, Outcome, Source};
+use command_line::{Job, Outcome, Request, Source};
 use std::io;
 use std::io::ErrorKind;
 use std::rt::Files;
@@ -62,6 +62,14 @@ fn files_of<'a>(job: &Job<'a>) -> Uses<'a> {
         },
         Job::Show(source) => reading("IMAGE", source),
         Job::Draw(source, _) => reading("IMAGE", source),
+        Job::Join(first, image) => Uses {
+            image: Some(image),
+            ..reading("IMAGE", first)
+        },
+        Job::Route(route) => Uses {
+            image: route.image,
+            ..reading("FILE", route.source)
+        },
     }
 }
 
@@ -177,21 +185,66 @@ fn check_shared<'a, R: Files + Eprint + AllocGlobal>(
     }
 }
 
-/// Looks at the files of a job before anything is read. An output that is named `-`, or is the same
-/// file as another output or an input, ends the run here.
-pub fn check_files<'a, R: Files + Eprint + AllocGlobal>(
+/// Refuses an output that is one of the images which are joined after the first one.
+fn check_further<'a, R: Files + Eprint + AllocGlobal>(
     rt: &R,
-    job: &Job<'_>,
+    uses: Uses<'_>,
+    further: &[Source<'_>],
 ) -> Result<(), Performed<'a>>
     ensures { IfErr result (λ p. (p.outcome ≡ Outcome.NoJob ParseError.ArgumentConflict true)
         ⊎ (p.outcome ≡ Outcome.Answered (Err Error.Memory))) }
 {
-    let uses = files_of(job);
+    for source in further {
+        let input = Reads {
+            source: *source,
+            ..uses.input
+        };
+        check_shared(rt, Uses { input, ..uses })?;
+    }
+    Ok(())
+}
+
+/// Refuses standard input as the internet file of a router, and images every so many ticks that go to
+/// no file.
+fn check_route<'a>(rt: &impl Eprint, job: &Job<'_>) -> Result<(), Performed<'a>>
+    ensures { IfErr result (λ p. p.outcome ≡ Outcome.NoJob ParseError.ArgumentConflict true) }
+{
+    let Job::Route(route) = job else {
+        return Ok(());
+    };
+    if route.source == Source::StandardInput {
+        let _ = eprintln!(rt;
+            "error: FILE - names no file: ./- does, and standard input carries the cables' frames"
+        );
+        return Err(usage_error());
+    }
+    if route.every.is_some() && route.image.is_none() {
+        let _ = eprintln!(rt; "error: --every asks for --image");
+        return Err(usage_error());
+    }
+    Ok(())
+}
+
+/// Looks at the files of a request before anything is read. An output that is named `-`, or is the
+/// same file as another output or an input, ends the run here.
+pub fn check_files<'a, R: Files + Eprint + AllocGlobal>(
+    rt: &R,
+    request: &Request<'_>,
+) -> Result<(), Performed<'a>>
+    ensures { IfErr result (λ p. (p.outcome ≡ Outcome.NoJob ParseError.ArgumentConflict true)
+        ⊎ (p.outcome ≡ Outcome.Answered (Err Error.Memory))) }
+{
+    check_route(rt, &request.job)?;
+    let uses = files_of(&request.job);
     if uses.image == Some("-") {
         return Err(refuse_dash(rt, "--image"));
     }
     if uses.capture == Some("-") {
         return Err(refuse_dash(rt, "--capture"));
     }
-    check_shared(rt, uses)
+    check_shared(rt, uses)?;
+    match request.job {
+        Job::Join(_, _) => check_further(rt, uses, request.further.as_slice()),
+        _ => Ok(()),
+    }
 }

@@ -1,6 +1,6 @@
 //! The program `atalk`: audits an image of an internet's tables, runs scripts over it, shows and
-//! draws it, makes one of a tables file, and plays internet files, whose final tables it writes as
-//! an image.
+//! draws it, joins several, makes one of a tables file, and plays internet files, whose final tables
+//! it writes as an image.
 #![tactic(auto)]
 
 mod explain;
@@ -11,7 +11,9 @@ mod outputs;
 mod performed;
 mod printing;
 mod run;
+mod run_join;
 mod run_play;
+mod run_route;
 mod run_tables;
 mod run_trace;
 mod settling;

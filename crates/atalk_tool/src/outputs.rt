@@ -86,6 +86,11 @@ impl<'r, R: Files + AllocGlobal> Outputs<'r, R> {
 }
 
 impl<'a> Wanted<'a> {
+    /// The files for the image and for the capture.
+    pub fn of(image: Option<&'a str>, capture: Option<&'a str>) -> Wanted<'a> {
+        Wanted { image, capture }
+    }
+
     /// The file of an output that couldn't be written.
     pub fn missed(self, unwritten: Option<Unwritten>) -> Option<Missed<'a>> {
         match (unwritten, self.image, self.capture) {

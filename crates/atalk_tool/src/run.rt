@@ -10,7 +10,9 @@ use crate::objects::print_objects;
 use crate::outputs::Wanted;
 use crate::performed::Performed;
 use crate::printing::Printing;
+use crate::run_join::{JoinJob, join_sources};
 use crate::run_play::{PlayJob, play_source};
+use crate::run_route::run_route;
 use crate::run_tables::{MakeJob, Printed, draw_source, make_source, print_source};
 use crate::run_trace::{Sources, trace_sources};
 use crate::settling::settle;
@@ -172,28 +174,19 @@ fn refuse_arguments<'a>(rt: &impl Eprint, kind: io::ErrorKind) -> Performed<'a>
     Performed::without_source(Outcome::NoArguments(kind))
 }
 
-/// Performs a job whose files are different ones.
+/// Performs the job of a request whose files are different ones.
 fn perform<'a, R: Files + Input + Print + Eprint + AllocGlobal>(
     rt: &R,
-    job: Job<'a>,
+    request: &Request<'a>,
     telling: Telling,
 ) -> Performed<'a> {
-    match job {
+    match request.job {
         Job::Audit(source) => audit_source(rt, Audited { source, name: None }, telling),
         Job::Trace(image, script, capture) => {
-            let wanted = Wanted {
-                image: None,
-                capture,
-            };
-            let sources = Sources {
-                image,
-                script,
-                wanted,
-            };
-            trace_sources(rt, sources, telling)
+            trace_sources(rt, Sources::of(image, script, capture), telling)
         }
         Job::Play(source, image, version, capture) => {
-            let wanted = Wanted { image, capture };
+            let wanted = Wanted::of(image, capture);
             let job = PlayJob {
                 source,
                 wanted,
@@ -202,14 +195,21 @@ fn perform<'a, R: Files + Input + Print + Eprint + AllocGlobal>(
             play_source(rt, job, telling)
         }
         Job::Make(source, image) => {
-            let wanted = Wanted {
-                image,
-                capture: None,
-            };
+            let wanted = Wanted::of(image, None);
             make_source(rt, MakeJob { source, wanted }, telling)
         }
         Job::Show(source) => print_source(rt, source, Printed::Tables, telling),
         Job::Draw(source, to) => draw_source(rt, source, to, telling),
+        Job::Join(first, image) => {
+            let (further, wanted) = (request.further.as_slice(), Wanted::of(Some(image), None));
+            let job = JoinJob {
+                first,
+                further,
+                wanted,
+            };
+            join_sources(rt, job, telling)
+        }
+        Job::Route(route) => run_route(rt, route, request.cables.as_slice()),
     }
 }
 
@@ -235,14 +235,14 @@ fn run_request<R: Files + Input + Print + Eprint + AllocGlobal>(
     request: &Request<'_>,
     telling: Telling,
 ) -> u8 {
-    if let Err(refused) = check_files(rt, &request.job) {
+    if let Err(refused) = check_files(rt, request) {
         return answer(rt, &refused, None, telling);
     }
     match (request.job, request.further.as_slice()) {
         (Job::Audit(first), further) if !further.is_empty() => {
             audit_several(rt, first, further, telling)
         }
-        (job, _) => answer(rt, &perform(rt, job, telling), None, telling),
+        _ => answer(rt, &perform(rt, request, telling), None, telling),
     }
 }
 

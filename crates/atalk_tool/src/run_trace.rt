@@ -29,6 +29,17 @@ pub struct Sources<'a> {
     pub wanted: Wanted<'a>,
 }
 
+impl<'a> Sources<'a> {
+    /// The sources of a trace, and the file for its capture, if one is wanted.
+    pub fn of(image: Source<'a>, script: Source<'a>, capture: Option<&'a str>) -> Sources<'a> {
+        Sources {
+            image,
+            script,
+            wanted: Wanted::of(None, capture),
+        }
+    }
+}
+
 /// The source that the result of a trace is about.
 fn source_of<'a>(
     sources: Sources<'a>,

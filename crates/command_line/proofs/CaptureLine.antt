@@ -4,8 +4,9 @@ use Rattle.clap.specs.Words.{Row, Shape, Text, first_of, subcommand_of, takes}
 use Rattle.clap.specs.Walk.{Walk, value, walked, nothing_held, rows_after}
 use Rattle.clap.specs.Takes.{level_passes}
 use Rattle.clap.proofs.OnLiterals.{clap_on_literals}
-use Rattle.command_line.specs.Arguments.{IsMeant, AsksForPlay, Traces, atalk_app, capture_to_words, capture_words, is_operand}
-use Rattle.command_line.specs.Arguments.{trace_to_words, version_by}
+use Rattle.command_line.specs.Arguments.{IsMeant, AsksForPlay, Traces, version_by}
+use Rattle.command_line.specs.Forms.{capture_to_words, capture_words, is_operand, trace_to_words}
+use Rattle.command_line.specs.Syntax.{atalk_app}
 use Rattle.command_line.specs.declared.arguments.Job.{Job}
 use Rattle.command_line.proofs.CommandLine.{trace_of_rows, trace_shape}
 use Rattle.command_line.proofs.Operands.{Leads, as_value, ends_well, leads_nowhere, leads_on, leads_operand, leads_value, rows_at_end}

@@ -6,7 +6,9 @@ use Rattle.clap.specs.Walk.{Held, Step, Walk, value, walked, walk_from, nothing_
 use Rattle.clap.specs.Takes.{step_passes, walk_passes}
 use Rattle.clap.specs.declared.error.ErrorKind.TheVariants.{DisplayHelp, DisplayVersion}
 use Rattle.clap.proofs.OnLiterals.{clap_on_literals}
-use Rattle.command_line.specs.Arguments.{Audits, IsMeant, Traces, atalk_app, audit_app, is_operand, trace_app}
+use Rattle.command_line.specs.Arguments.{Audits, IsMeant, Traces}
+use Rattle.command_line.specs.Forms.{is_operand}
+use Rattle.command_line.specs.Syntax.{atalk_app, audit_app, trace_app}
 use Rattle.command_line.specs.declared.arguments.Job.{Job}
 use Rattle.command_line.proofs.Operands.{ends_well, met_in, met_value, passes_in, passes_value, rows_at_end, walk_by}
 

@@ -1,13 +1,13 @@
 -- Arguments that are no flags, as a parse meets them.
 use Rattle.std.proofs.Common.{◌≡◌, ◌==◌, ◌&&◌, ◌∙◌, ℕ, Bool, not, false, fold, List, [], ◌∷◌, None, true, refl, ap, ap₂}
 use Rattle.clap.specs.Words.{Row, Shape, Text}
-use Rattle.clap.specs.Walk.{Held, Step, Waiting, Walk, value, idle, option, plain_word, word_met, walk_from, walked, after_step, finished}
-use Rattle.clap.specs.Walk.{nothing_held, rows_after}
+use Rattle.clap.specs.Walk.{Held, Step, Waiting, Walk, value, idle, option, plain_word, positional, word_met, walk_from, walked, after_step}
+use Rattle.clap.specs.Walk.{finished, nothing_held, rows_after}
 use Rattle.clap.specs.Takes.{default_passes, is_valid, level_passes, settle_passes, step_passes, turn_passes, walk_passes, word_passes}
 use Rattle.clap.specs.Lexer.{strip_byte, long_of, short_of}
 use Rattle.std.specs.Str.{bytes_eq}
 use Rattle.std.specs.List.{list_all}
-use Rattle.command_line.specs.Arguments.{is_operand}
+use Rattle.command_line.specs.Forms.{is_operand}
 
 -- By the tests of a parse, the argument is neither a flag nor the end of flags.
 abbrev pub IsNoFlag : Text → Type 0
@@ -101,6 +101,27 @@ leads_operand shape held position to word words operand passes rest =
     (met_value shape position held word operand) ∙ passes)
     (ap (λ (met : Held × Step). walk_by shape (walking held idle position) word met) (met_value shape position held word operand))
     rest
+
+-- The same after an argument that went to a positional which takes several.
+met_further : (shape : Shape) (position : ℕ) (held : Held) (word : Text) → is_operand word ≡ true
+    → word_met shape.rules [] false positional position word held ≡ (held, value)
+met_further shape position held word operand = let tests = no_flag word operand in rw (tests.0, tests.1, tests.2) refl
+
+passes_further : (shape : Shape) (held : Held) (word : Text) → is_operand word ≡ true
+    → word_passes shape [] false positional word held ≡ true
+passes_further shape held word operand = let tests = no_flag word operand in rw (tests.0, tests.1, tests.2) refl
+
+pub leads_further : (shape : Shape) (held : Held) (position : ℕ) (to : Walk) (word : Text) (words : List Text)
+    → is_operand word ≡ true → step_passes shape position held value ≡ true
+    → Leads shape (walk_by shape (walking held positional position) word (held, value)) words to
+    → Leads shape (walking held positional position) (word ∷ words) to
+unfolding walked
+leads_further shape held position to word words operand passes rest =
+    leads_on shape (walking held positional position) (walk_by shape (walking held positional position) word (held, value)) to word words
+    (ap₂ (λ (b : Bool) (met : Held × Step). b && step_passes shape position met.0 met.1) (passes_further shape held word operand)
+    (met_further shape position held word operand) ∙ passes)
+    (ap (λ (met : Held × Step). walk_by shape (walking held positional position) word met)
+    (met_further shape position held word operand)) rest
 
 -- The effect of an argument that is the value of the option that waits for one.
 abbrev pub as_value : Shape → Text → Text → Held → Held × Step

@@ -5,9 +5,10 @@ use Rattle.clap.specs.Words.{Row, Shape, Text, built, first_of, subcommand_of, t
 use Rattle.clap.specs.Walk.{Walk, value, walked, walk_from, nothing_held, rows_after}
 use Rattle.clap.specs.Takes.{level_passes}
 use Rattle.clap.proofs.OnLiterals.{clap_on_literals}
-use Rattle.command_line.specs.Arguments.{IsMeant, Place, AsksForPlay, atalk_app, is_operand, play_app, play_to_words, play_words}
-use Rattle.command_line.specs.Arguments.{version_at, version_by}
-use Rattle.command_line.specs.Arguments.Place.{Nowhere, BeforeFile, AfterFile, AtEnd}
+use Rattle.command_line.specs.Arguments.{IsMeant, AsksForPlay, version_by}
+use Rattle.command_line.specs.Forms.{Place, is_operand, play_to_words, play_words, version_at}
+use Rattle.command_line.specs.Syntax.{atalk_app, play_app}
+use Rattle.command_line.specs.Forms.Place.{Nowhere, BeforeFile, AfterFile, AtEnd}
 use Rattle.command_line.specs.declared.arguments.Job.{Job}
 use Rattle.command_line.proofs.Operands.{Leads, as_value, ends_well, leads_nowhere, leads_on, leads_operand, leads_value, rows_at_end}
 use Rattle.command_line.proofs.Operands.{walk_by, whole_line}

@@ -5,7 +5,9 @@ use Rattle.clap.specs.Words.{Row, Shape, Text, built, first_of, subcommand_of, t
 use Rattle.clap.specs.Walk.{Walk, value, walked, walk_from, nothing_held, rows_after}
 use Rattle.clap.specs.Takes.{level_passes}
 use Rattle.clap.proofs.OnLiterals.{clap_on_literals}
-use Rattle.command_line.specs.Arguments.{Draws, IsMeant, Makes, Shows, atalk_app, draw_app, is_operand, make_app, show_app}
+use Rattle.command_line.specs.Arguments.{Draws, IsMeant, Makes, Shows}
+use Rattle.command_line.specs.Forms.{is_operand}
+use Rattle.command_line.specs.Syntax.{atalk_app, draw_app, make_app, show_app}
 use Rattle.command_line.specs.declared.arguments.Job.{Job}
 use Rattle.command_line.proofs.Operands.{Leads, as_value, ends_well, leads_nowhere, leads_on, leads_operand, leads_value, rows_at_end}
 use Rattle.command_line.proofs.Operands.{walk_by, whole_line}

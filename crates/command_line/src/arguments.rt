@@ -2,15 +2,16 @@
 
 ghost use Rattle.std.specs.Prelude.{◌≡◌, ◌≢◌, ◌⊎◌, ◌≤◌, ◌∷◌, ◌++◌};
 ghost use Rattle.std.specs.Prelude.{List, ℕ, [], None, true, codes, length, map};
-ghost use Rattle.std.specs.Prelude.{IfOk, IfErr, IsErrAnd, OnOk, Some, option_map};
+ghost use Rattle.std.specs.Prelude.{IfOk, IfErr, IsErrAnd, OnOk, Some, option_map, unwrap_or};
 ghost use Rattle.clap.specs.Words.{FailsBy, all_of, fault_of, first_of, found_of, kind_of};
 ghost use Rattle.clap.specs.Words.{rows_of};
 ghost use Rattle.clap.specs.Words.{subcommand_of, subcommand_rows_of, takes};
 ghost use Rattle.clap.specs.declared.error.ErrorKind.TheVariants.{OutOfMemory};
-ghost use Rattle.command_line.specs.Arguments.{About, AreNamed, AreOperands, Asks, Form};
-ghost use Rattle.command_line.specs.Arguments.{IsMeantBy, IsRequest, Names, about_kind, about_word};
-ghost use Rattle.command_line.specs.Arguments.{asked, atalk_app, is_set, later, operands_of};
-ghost use Rattle.command_line.specs.Arguments.{source_for, version_by, words_of};
+ghost use Rattle.command_line.specs.Arguments.{About, AreNamed, IsMeantBy, IsRequest, IsWord, Names};
+ghost use Rattle.command_line.specs.Arguments.{ToRoute, about_kind, about_word, asked, is_set};
+ghost use Rattle.command_line.specs.Arguments.{later, source_for, version_by};
+ghost use Rattle.command_line.specs.Forms.{AreOperands, Asks, Form, operands_of, words_of};
+ghost use Rattle.command_line.specs.Syntax.{atalk_app};
 
 use crate::syntax::atalk_command;
 use clap::{ArgMatches, Error};
@@ -23,6 +24,21 @@ use table_image::Version;
 pub enum Source<'a> {
     StandardInput,
     File(&'a str),
+}
+
+/// What a router on real cables is asked for, with the words of options as they are given.
+#[derive(Clone, Copy, Debug, PartialEq, Eq)]
+pub struct Route<'a> {
+    /// The internet file.
+    pub source: Source<'a>,
+    /// The word of `--router`.
+    pub router: &'a str,
+    /// The file for the router's image, if one is wanted.
+    pub image: Option<&'a str>,
+    /// The word of `--every`, if it is given.
+    pub every: Option<&'a str>,
+    /// Whether `--log` is given.
+    pub log: bool,
 }
 
 /// The job that the command line asks for.
@@ -43,6 +59,10 @@ pub enum Job<'a> {
     /// The drawing of an image, and the word for the network to which the ways are drawn, if one is
     /// asked for.
     Draw(Source<'a>, Option<&'a str>),
+    /// The joining of images, the first of which is this one, and the file for the image of all.
+    Join(Source<'a>, &'a str),
+    /// A router of an internet file, on real cables.
+    Route(Route<'a>),
 }
 
 /// What the command line asks for.
@@ -50,8 +70,10 @@ pub enum Job<'a> {
 pub struct Request<'a> {
     /// The job.
     pub job: Job<'a>,
-    /// The images that an audit judges after the first one, in their order.
+    /// The images that an audit judges or that are joined after the first one, in their order.
     pub further: Vec<Source<'a>>,
+    /// The words of the options `--cable`, in their order.
+    pub cables: Vec<&'a str>,
     /// The word of `--explain`, if it is given.
     pub explain: Option<&'a str>,
     /// Whether `--quiet` is given.
@@ -108,6 +130,7 @@ fn request_of<'a>(alloc: Global, matches: &ArgMatches<'a>) -> Result<Request<'a>
         Some((name, operands)) => Ok(Request {
             job: job_named(name, operands),
             further: further_in(alloc, operands)?,
+            cables: cables_in(alloc, operands)?,
             explain: word_in(operands, "WHEN"),
             quiet: flag_in(operands, "QUIET"),
             json: flag_in(operands, "JSON"),
@@ -116,6 +139,7 @@ fn request_of<'a>(alloc: Global, matches: &ArgMatches<'a>) -> Result<Request<'a>
         None => Ok(Request {
             job: Job::Audit(Source::StandardInput),
             further: Vec::new(alloc),
+            cables: Vec::new(alloc),
             explain: None,
             quiet: false,
             json: false,
@@ -182,8 +206,45 @@ fn job_named<'a>(name: &str, operands: &ArgMatches<'a>) -> Job<'a>
         Job::Show(source_in(operands, "IMAGE"))
     } else if name == "draw" {
         Job::Draw(source_in(operands, "IMAGE"), word_in(operands, "NET"))
+    } else if name == "join" {
+        Job::Join(source_in(operands, "FILE"), required_in(operands, "OUT"))
+    } else if name == "route" {
+        Job::Route(route_in(operands))
     } else {
         Job::Audit(source_in(operands, "FILE"))
+    }
+}
+
+/// All of the texts, if there are any.
+fn all_texts<'b, 'a>(texts: Option<&'b [&'a str]>) -> &'b [&'a str]
+    ensures { map (λ text. text.now) result.now
+        ≡ unwrap_or (option_map (λ all. map (λ text. text.now) all.now) texts.entry) [] }
+{
+    match texts {
+        Some(texts) => texts,
+        None => &[],
+    }
+}
+
+/// The words of the options `--cable`. Error: `AllocError`.
+fn cables_in<'a>(alloc: Global, operands: &ArgMatches<'a>) -> Result<Vec<&'a str>, AllocError>
+    ensures { IfOk result (λ v. map (λ word. word.now) v.items
+        ≡ unwrap_or (all_of (codes "K=NAME") (rows_of (found_of operands.now))) []) }
+{
+    Vec::from_slice(alloc, all_texts(operands.get_strs("K=NAME")))
+}
+
+/// What a router on real cables is asked for.
+fn route_in<'a>(operands: &ArgMatches<'a>) -> Route<'a>
+    ensures { IsMeantBy ToRoute (rows_of (found_of operands.now)) (Job.Route result) }
+{
+    let image = word_in(operands, "OUT");
+    Route {
+        source: source_in(operands, "FILE"),
+        router: required_in(operands, "N"),
+        image,
+        every: word_in(operands, "TICKS"),
+        log: flag_in(operands, "LOG"),
     }
 }
 
@@ -200,6 +261,13 @@ fn word_in<'a>(operands: &ArgMatches<'a>, name: &str) -> Option<&'a str>
         ≡ first_of name.now (rows_of (found_of operands.now)) }
 {
     operands.get_str(name)
+}
+
+/// The word in the required option with this name.
+fn required_in<'a>(operands: &ArgMatches<'a>, name: &str) -> &'a str
+    ensures { IsWord (first_of name.now (rows_of (found_of operands.now))) result.now }
+{
+    word_in(operands, name).unwrap_or("")
 }
 
 /// Whether the flag with this name is given.

@@ -5,8 +5,9 @@
 mod arguments;
 mod exit;
 mod exit_status;
+mod help;
 mod syntax;
 
-pub use arguments::{Job, Request, Source, read_arguments};
+pub use arguments::{Job, Request, Route, Source, read_arguments};
 pub use exit::{Exit, Outcome, exit_of};
 pub use exit_status::status;

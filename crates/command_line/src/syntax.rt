@@ -3,105 +3,19 @@
 ghost use Rattle.std.specs.Prelude.{◌≡◌, IfOk, false};
 ghost use Rattle.clap.specs.Words.{app_of, rule_of};
 ghost use Rattle.clap.specs.declared.Command.TheViews.{out-Command as fields_of};
-ghost use Rattle.command_line.specs.Arguments.{atalk_app, audit_app, draw_app, images_app};
-ghost use Rattle.command_line.specs.Arguments.{make_app, out_option, play_app, plays_app};
-ghost use Rattle.command_line.specs.Arguments.{show_app, tables_play_app, to_option, trace_app};
-ghost use Rattle.command_line.specs.Arguments.{v2_flag};
-ghost use Rattle.command_line.specs.Arguments as spec;
+ghost use Rattle.command_line.specs.Syntax.{atalk_app, audit_app, cabled_app, draw_app, images_app};
+ghost use Rattle.command_line.specs.Syntax.{join_app, make_app, out_option, play_app, plays_app};
+ghost use Rattle.command_line.specs.Syntax.{route_app, show_app, tables_app, tables_play_app};
+ghost use Rattle.command_line.specs.Syntax.{to_option, trace_app, v2_flag};
+ghost use Rattle.command_line.specs.Syntax as spec;
 
+use crate::help::{
+    ABOUT, AFTER_COMMAND, AFTER_HELP, AUDIT, CABLE, CAPTURE, DRAW, EVERY, EXPLAIN, IMAGE, IMAGES,
+    INTERNET, JOIN, JSON, LOG, MAKE, NET, OUT, PARTS, PLAY, QUIET, ROUTE, ROUTED, ROUTER, SCRIPT,
+    SETTLED, SHOW, TABLES, TRACE, VERSION_2,
+};
 use clap::{Arg, ArgAction, Command};
 use std::alloc::{AllocError, Global};
-
-const ABOUT: &str =
-    "Plays AppleTalk internets, audits images of their tables, runs scripts over these, and \
-    reads, shows and draws the tables of an internet that stands.";
-
-const AFTER_HELP: &str = "Without a command, atalk audits the image on standard input.
-
-Exit status:
-  0  yes: the tables keep every rule; or a run was made
-  1  no: the line printed names the first rule that is broken, and where; or, with --settled, the
-     first row that may change
-  2  the input is refused, for the reason that its number gives; or a usage error
-  3  out of memory, or reading or writing failed
-
-A refusal prints `refused: N` on standard error:
-  11  more happens in a play than there is room for
-  12  the input is no image
-  13  the input is no internet file, or no tables file
-  14  out of memory
-  15  the input can't be opened or read
-  16  the answer can't be written
-  17  the script has a bad line
-Where standard error is a terminal, a no and a refusal are explained there; --explain=always or the
-variable ATALK_EXPLAIN says it everywhere.
-
-Examples:
-  atalk audit three-cables.image
-  atalk trace three-cables.image echo.script
-  atalk play two-routers.toml --image two-routers.image
-  atalk play two-routers.toml --capture two-routers.pcapng
-  atalk make museum.toml --image museum.image
-  atalk draw museum.image | dot -Tsvg > museum.svg
-
-More: man atalk, man atalk-image, man atalk-script, man atalk-internet, man atalk-tables";
-
-const AFTER_COMMAND: &str = "Exit status:
-  0  yes: the tables keep every rule; or what was asked for was done
-  1  no: the line printed names the first rule that is broken, and where
-  2  refused: the input, by `refused: N` on standard error, or the arguments
-  3  out of memory, or reading or writing failed
-
-More: atalk --help has the numbers of refusals, and man atalk the rest";
-
-const AUDIT: &str =
-    "Judges images and prints one line for each: yes with a summary, or no with the first fault";
-
-const TRACE: &str = "Runs a script over an image that passes the audit, and prints what happens";
-
-const PLAY: &str =
-    "Plays an internet file to its last tick, and prints what its nodes received and \
-    the verdict on the tables";
-
-const MAKE: &str =
-    "Reads a tables file, which says what each router and node holds, and prints the verdict on it";
-
-const SHOW: &str = "Prints the tables file of an image";
-
-const DRAW: &str = "Prints a drawing of an image, in the language of Graphviz' dot";
-
-const TABLES: &str = "The tables file; - is standard input";
-
-const NET: &str = "Draws how each router sends datagrams for this network on";
-
-const IMAGE: &str = "The image; - is standard input";
-
-const IMAGES: &str = "The images; - is standard input. Of several, each line begins with its name";
-
-const SCRIPT: &str = "The script; - is standard input";
-
-const INTERNET: &str = "The internet file; - is standard input";
-
-const OUT: &str = "The file for the image of the tables, which may not be -";
-
-const CAPTURE: &str =
-    "The file for a capture of the cables, in pcapng, for Wireshark, which may not be -";
-
-const VERSION_2: &str =
-    "Writes the image in version 2, with each station's mappings; without it the image is of \
-    version 1 where that can hold the tables, else of version 2";
-
-const EXPLAIN: &str =
-    "When a person is told more on standard error: always, never, or auto, which is where that is a \
-    terminal";
-
-const QUIET: &str = "Prints nothing on standard output: the exit status tells the verdict";
-
-const JSON: &str = "Prints one JSON object a line instead of text";
-
-const SETTLED: &str =
-    "After a yes, also tells whether routing data can still change a route: `settled: yes`, or \
-    `settled: no` with the first row";
 
 /// A required operand.
 fn operand<'a>(alloc: Global, name: &'a str, help: &'a str) -> Arg<'a>
@@ -309,6 +223,101 @@ fn draw_command<'a>(alloc: Global) -> Result<Command<'a>, AllocError>
     with_explain(alloc, command)
 }
 
+/// `--image OUT`, which must be given.
+fn required_image<'a>(alloc: Global) -> Arg<'a>
+    ensures rule { rule_of result ≡ spec.required_out }
+    ensures local { result.global ≡ false }
+{
+    operand(alloc, "OUT", OUT).long("image")
+}
+
+/// The operand IMAGE, which is given once or more.
+fn parts_operand<'a>(alloc: Global) -> Arg<'a>
+    ensures rule { rule_of result ≡ spec.parts_operand }
+    ensures local { result.global ≡ false }
+{
+    operands(alloc, "FILE", PARTS).value_name("IMAGE")
+}
+
+/// `atalk join IMAGE..`, with `--image OUT`.
+fn join_command<'a>(alloc: Global) -> Result<Command<'a>, AllocError>
+    ensures app { IfOk result (λ command. app_of command ≡ join_app) }
+    ensures local { IfOk result (λ command. (fields_of command).has_globals ≡ false) }
+{
+    let command = Command::new(alloc, "join")
+        .about(JOIN)
+        .after_help(AFTER_COMMAND)
+        .arg(parts_operand(alloc))?
+        .arg(required_image(alloc))?;
+    with_settled(alloc, command)
+}
+
+/// `--router N`.
+fn router_option<'a>(alloc: Global) -> Arg<'a>
+    ensures rule { rule_of result ≡ spec.router_option }
+    ensures local { result.global ≡ false }
+{
+    operand(alloc, "N", ROUTER).long("router")
+}
+
+/// `--cable K=NAME`.
+fn cable_option<'a>(alloc: Global) -> Arg<'a>
+    ensures rule { rule_of result ≡ spec.cable_option }
+    ensures local { result.global ≡ false }
+{
+    Arg::new(alloc, "K=NAME")
+        .long("cable")
+        .help(CABLE)
+        .action(ArgAction::Append)
+}
+
+/// `--every TICKS`.
+fn every_option<'a>(alloc: Global) -> Arg<'a>
+    ensures rule { rule_of result ≡ spec.every_option }
+    ensures local { result.global ≡ false }
+{
+    Arg::new(alloc, "TICKS")
+        .long("every")
+        .help(EVERY)
+        .action(ArgAction::Set)
+}
+
+/// `--log`.
+fn log_flag<'a>(alloc: Global) -> Arg<'a>
+    ensures rule { rule_of result ≡ spec.log_flag }
+    ensures local { result.global ≡ false }
+{
+    Arg::new(alloc, "LOG")
+        .long("log")
+        .help(LOG)
+        .action(ArgAction::SetTrue)
+}
+
+/// `atalk route FILE`, with `--router N` and `--cable K=NAME`.
+fn cabled_command<'a>(alloc: Global) -> Result<Command<'a>, AllocError>
+    ensures app { IfOk result (λ command. app_of command ≡ cabled_app) }
+    ensures local { IfOk result (λ command. (fields_of command).has_globals ≡ false) }
+{
+    Command::new(alloc, "route")
+        .about(ROUTE)
+        .after_help(AFTER_COMMAND)
+        .arg(operand(alloc, "FILE", ROUTED))?
+        .arg(router_option(alloc))?
+        .arg(cable_option(alloc))
+}
+
+/// `atalk route FILE`, with its options.
+fn route_command<'a>(alloc: Global) -> Result<Command<'a>, AllocError>
+    ensures app { IfOk result (λ command. app_of command ≡ route_app) }
+    ensures local { IfOk result (λ command. (fields_of command).has_globals ≡ false) }
+{
+    let command = cabled_command(alloc)?
+        .arg(image_option(alloc))?
+        .arg(every_option(alloc))?
+        .arg(log_flag(alloc))?;
+    with_explain(alloc, command)
+}
+
 /// `atalk`, with its commands for images.
 fn image_commands<'a>(alloc: Global) -> Result<Command<'a>, AllocError>
     ensures { IfOk result (λ command. app_of command ≡ images_app) }
@@ -328,12 +337,21 @@ fn play_commands<'a>(alloc: Global) -> Result<Command<'a>, AllocError>
     image_commands(alloc)?.subcommand(play_command(alloc)?)
 }
 
-/// `atalk`, with its commands.
-pub(crate) fn atalk_command<'a>(alloc: Global) -> Result<Command<'a>, AllocError>
-    ensures { IfOk result (λ command. app_of command ≡ atalk_app) }
+/// `atalk`, with its commands for images, for internet files and for tables files.
+fn table_commands<'a>(alloc: Global) -> Result<Command<'a>, AllocError>
+    ensures { IfOk result (λ command. app_of command ≡ tables_app) }
 {
     play_commands(alloc)?
         .subcommand(make_command(alloc)?)?
         .subcommand(show_command(alloc)?)?
         .subcommand(draw_command(alloc)?)
+}
+
+/// `atalk`, with its commands.
+pub(crate) fn atalk_command<'a>(alloc: Global) -> Result<Command<'a>, AllocError>
+    ensures { IfOk result (λ command. app_of command ≡ atalk_app) }
+{
+    table_commands(alloc)?
+        .subcommand(join_command(alloc)?)?
+        .subcommand(route_command(alloc)?)
 }

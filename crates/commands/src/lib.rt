@@ -1,12 +1,14 @@
-//! The commands of `atalk`, from readers to writers: an audit, a trace, a play, and what is made of
-//! a tables file, shown of an image or drawn. Each reads its input to the end, or an image up to its
-//! first fault, does its work, and then writes; what it worked out is returned.
+//! The commands of `atalk`, from readers to writers: an audit, a trace, a play, what is made of a
+//! tables file, shown of an image or drawn, and what is joined of several images. Each reads its
+//! input to the end, or an image up to its first fault, does its work, and then writes; what it
+//! worked out is returned.
 #![tactic(auto)]
 
 mod answers;
 mod auditing;
 mod handing;
 mod image_input;
+mod joining;
 mod making;
 mod plays;
 mod reading;
@@ -19,6 +21,7 @@ mod tracing;
 pub use answers::{Answer, answer_of, into_answer};
 pub use auditing::{Judged, audit_file};
 pub use image_input::read_image;
+pub use joining::{join_image, judge_image};
 pub use making::make_bytes;
 pub use plays::{capture_play, play_bytes};
 pub use reading::READS;

@@ -23,12 +23,12 @@ use std::io::{Read, Write};
 use table_image::{Image, write};
 use text::Output;
 
-/// What is made of a tables file, and what is written of it.
+/// What is made of a tables file or of joined images, and what is written of it.
 #[derive(Drop)]
-struct Made {
-    it: Judged,
-    line: Vec<u8>,
-    bytes: Bytes,
+pub(crate) struct Made {
+    pub it: Judged,
+    pub line: Vec<u8>,
+    pub bytes: Bytes,
 }
 
 /// The line of a verdict, with its end. Error: `Memory`.
@@ -44,7 +44,7 @@ fn line_of(alloc: Global, verdict: &Verdict) -> Result<Vec<u8>, Error>
 }
 
 /// Judges an image. Error: `Memory`.
-fn judge(alloc: Global, image: Image) -> Result<Made, Error>
+pub(crate) fn judge(alloc: Global, image: Image) -> Result<Made, Error>
     ensures image { IfOk result (λ m. m.it.image ≡ image) }
     ensures judged { IfOk result (λ m. Judges m.it.image m.it.verdict) }
     ensures line { IfOk result (λ m. m.line.items ≡ verdict_line m.it.verdict ++ 10 ∷ []) }

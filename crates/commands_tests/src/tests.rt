@@ -7,6 +7,7 @@
 mod capturing;
 mod fakes;
 mod images;
+mod joining;
 mod making;
 mod outputs;
 mod printing;
@@ -42,6 +43,8 @@ enum Trial {
     FaultBeforeFailure,
     Flushes,
     ImageInPieces,
+    JoinedCalls,
+    JoinedImages,
     LongText,
     MadeImage,
     MadeReads,
@@ -71,6 +74,8 @@ fn holds(alloc: Global, trial: Trial) -> Result<bool, Error> {
         }
         Trial::Flushes => outputs::text_is_flushed_after_it_is_written(alloc),
         Trial::ImageInPieces => images::an_image_may_come_in_pieces(alloc),
+        Trial::JoinedCalls => joining::every_call_of_a_joining_may_fail(alloc),
+        Trial::JoinedImages => joining::images_are_joined_or_refused(alloc),
         Trial::LongText => texts::a_long_text_comes_whole(alloc),
         Trial::MadeImage => {
             making::the_image_is_written_or_the_text_that_is_at_fault_returned(alloc)
@@ -147,6 +152,8 @@ fn lines_images_and_captures_are_written_in_order(rt: HostRuntime) {
         Trial::MadeReads,
         Trial::MadeWrites,
         Trial::MadeImage,
+        Trial::JoinedImages,
+        Trial::JoinedCalls,
         Trial::Captures,
         Trial::Ticks,
     ];

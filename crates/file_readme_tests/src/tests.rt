@@ -11,6 +11,7 @@ mod of_image_feed;
 mod of_image_verdict;
 mod of_image_zones;
 mod of_internet_file;
+mod of_joined;
 mod of_judge;
 mod of_script;
 mod of_table_image;
@@ -35,6 +36,7 @@ enum Example {
     ImageVerdict,
     ImageZones,
     InternetFile,
+    Joined,
     JudgedBytes,
     JudgedByToml,
     Script,
@@ -57,6 +59,7 @@ fn holds(alloc: Global, example: Example) -> Result<bool, Error> {
         Example::ImageVerdict => of_image_verdict::images_are_reported(alloc),
         Example::ImageZones => of_image_zones::cables_are_counted(alloc),
         Example::InternetFile => of_internet_file::datagrams_are_counted(alloc),
+        Example::Joined => of_joined::parts_are_joined(alloc),
         Example::JudgedBytes => Ok(of_judge::bytes_are_judged()),
         Example::JudgedByToml => Ok(of_judge::what_toml_takes_is_let_through(alloc)),
         Example::Script => of_script::a_script_may_be_cut_anywhere(alloc),
@@ -89,6 +92,7 @@ fn images_are_fed_read_judged_and_drawn(rt: HostRuntime) {
         Example::ImageZones,
         Example::Audit,
         Example::ImageVerdict,
+        Example::Joined,
         Example::Drawing,
         Example::TablesText,
     ];
@@ -130,6 +134,7 @@ fn laws_are_called() {
     audit::the_example_passes();
     audit::loops_have_no_walk();
     audit::words_exclude();
+    joined::same_cables_are_equal();
     script::scripts_have_no_bad_line();
     table_image::one_spelling();
 }

@@ -3,7 +3,7 @@
 use at_base::Error;
 use case_words::{Answer, Stop, Words, put_text};
 use clap::error::ErrorKind;
-use command_line::{Job, Request, Source, read_arguments};
+use command_line::{Job, Request, Route, Source, read_arguments};
 use std::alloc::{AllocError, Global};
 
 fn put_source(text: &mut String, source: Source<'_>) -> Result<(), AllocError> {
@@ -25,6 +25,18 @@ fn put_word(text: &mut String, what: &str, word: Option<&str>) -> Result<(), All
         }
         None => Ok(()),
     }
+}
+
+fn put_route(text: &mut String, route: Route<'_>) -> Result<(), AllocError> {
+    write!(text, "route")?;
+    put_source(text, route.source)?;
+    put_word(text, "router", Some(route.router))?;
+    put_word(text, "image to", route.image)?;
+    put_word(text, "every", route.every)?;
+    if route.log {
+        write!(text, " log")?;
+    }
+    Ok(())
 }
 
 fn put_job(text: &mut String, job: Job<'_>) -> Result<(), AllocError> {
@@ -63,6 +75,12 @@ fn put_job(text: &mut String, job: Job<'_>) -> Result<(), AllocError> {
             put_source(text, image)?;
             put_word(text, "ways to", to)?;
         }
+        Job::Join(image, to) => {
+            write!(text, "join")?;
+            put_source(text, image)?;
+            put_word(text, "image to", Some(to))?;
+        }
+        Job::Route(route) => put_route(text, route)?,
     }
     Ok(())
 }
@@ -71,6 +89,9 @@ fn put_request(text: &mut String, request: &Request<'_>) -> Result<(), AllocErro
     put_job(text, request.job)?;
     for source in &request.further {
         put_source(text, *source)?;
+    }
+    for cable in &request.cables {
+        put_word(text, "cable", Some(cable))?;
     }
     put_word(text, "explain", request.explain)?;
     if request.quiet {

@@ -4,7 +4,8 @@ use Rattle.std.proofs.lemmas.Result.{err_from_is_err_and}
 use Rattle.clap.specs.Words.{App, HasKind, Row, Text, IsAmong, Kinds, is_simple, is_simple_and_free, subcommand_of, takes, fault_of}
 use Rattle.clap.specs.declared.error.ErrorKind.{ErrorKind}
 use Rattle.clap.specs.declared.error.ErrorKind.TheVariants.{OutOfMemory}
-use Rattle.command_line.specs.Arguments.{IsMeant, IsRequest, atalk_app}
+use Rattle.command_line.specs.Arguments.{IsMeant, IsRequest}
+use Rattle.command_line.specs.Syntax.{atalk_app}
 use Rattle.command_line.proofs.CommandLine.{simple, simple_and_free, none_entered, none_taken}
 use Rattle.command_line.proofs.Forms.{about_asked, form_meant, form_taken}
 use Rattle.command_line.proofs.arguments.read_arguments.Goals as goal

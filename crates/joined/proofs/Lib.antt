@@ -1,0 +1,2 @@
+mod Same
+pub mod Values
