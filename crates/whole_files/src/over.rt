@@ -29,10 +29,16 @@ pub(crate) fn open_for_writing(rt: &HostRuntime, path: &str, read: bool) -> io::
 
 /// Makes these bytes the whole of a file.
 fn fill(file: &mut File, bytes: &[u8]) -> io::Result<()> {
-    file.seek(SeekFrom::Start(0))?;
-    file.write_all(bytes)?;
-    file.set_len(bytes.len() as u64)?;
-    settle(file)
+    if let Err(error) = file.seek(SeekFrom::Start(0)) {
+        return Err(error);
+    }
+    if let Err(error) = file.write_all(bytes) {
+        return Err(error);
+    }
+    match file.set_len(bytes.len() as u64) {
+        Ok(()) => settle(file),
+        Err(error) => Err(error),
+    }
 }
 
 impl Over {
@@ -63,14 +69,18 @@ impl Over {
     pub(crate) fn keep(&mut self, bytes: &[u8]) -> io::Result<usize>
         ensures { WritesAtMost result bytes.now }
     {
-        self.bytes.extend_from_slice(bytes)?;
-        Ok(bytes.len())
+        match self.bytes.extend_from_slice(bytes) {
+            Ok(()) => Ok(bytes.len()),
+            Err(error) => Err(io::Error::from(error)),
+        }
     }
 
     /// Writes the file in place, after its old bytes were read, if they may be.
     pub(crate) fn write(&mut self) -> io::Result<()> {
         if self.is_read {
-            self.file.read_to_end(&mut self.old)?;
+            if let Err(error) = self.file.read_to_end(&mut self.old) {
+                return Err(error);
+            }
             self.knows_old = true;
         }
         fill(&mut self.file, self.bytes.as_slice())

@@ -91,7 +91,10 @@ impl Part {
     /// Whether the part can replace the target, which exists and is open. It then gets the permissions
     /// of the target. Error: `OutOfMemory`.
     pub(crate) fn can_replace(&mut self, rt: &HostRuntime, file: &File) -> io::Result<bool> {
-        let target = Told::of(file)?;
+        let target = match Told::of(file) {
+            Ok(target) => target,
+            Err(error) => return Err(error),
+        };
         self.mode = Some(target.mode);
         match self.try_out(rt) {
             Ok(part) => Ok(target.is_alike(part)),
@@ -104,24 +107,31 @@ impl Part {
 
     /// Creates the part and removes it, and returns what the system says of it.
     pub(crate) fn try_out(&mut self, rt: &HostRuntime) -> io::Result<Told> {
-        self.begin(rt)?;
-        let told = self.told();
-        match self.remove(rt) {
-            Ok(()) => told,
+        match self.begun(rt) {
+            Ok(file) => {
+                let told = Told::of(file);
+                match self.remove(rt) {
+                    Ok(()) => told,
+                    Err(error) => Err(error),
+                }
+            }
             Err(error) => Err(error),
         }
     }
 
-    /// What the system says of the part.
-    fn told(&self) -> io::Result<Told> {
-        match &self.file {
-            Some(file) => Told::of(file),
-            None => Err(io::Error::from(ErrorKind::NotFound)),
+    /// The part. It is created, if that wasn't done yet, with the permissions of the target if that
+    /// exists; one that can't have them is removed.
+    fn begun(&mut self, rt: &HostRuntime) -> io::Result<&mut File> {
+        match self.begin(rt) {
+            Ok(()) => match &mut self.file {
+                Some(file) => Ok(file),
+                None => Err(io::Error::from(ErrorKind::NotFound)),
+            },
+            Err(error) => Err(error),
         }
     }
 
-    /// Creates the part, if that wasn't done yet, with the permissions of the target if that exists. A
-    /// part that can't have them is removed.
+    /// Creates the part, if that wasn't done yet.
     fn begin(&mut self, rt: &HostRuntime) -> io::Result<()> {
         if self.file.is_some() {
             return Ok(());
@@ -184,19 +194,17 @@ impl Part {
     pub(crate) fn write(&mut self, rt: &HostRuntime, bytes: &[u8]) -> io::Result<usize>
         ensures { WritesAtMost result bytes.now }
     {
-        self.begin(rt)?;
-        match &mut self.file {
-            Some(file) => file.write(bytes),
-            None => Err(io::Error::from(ErrorKind::NotFound)),
+        match self.begun(rt) {
+            Ok(file) => file.write(bytes),
+            Err(error) => Err(error),
         }
     }
 
-    /// Creates the part if nothing was written, and waits until it is on the disk.
+    /// Waits until the part is on the disk. It is created if nothing was written.
     pub(crate) fn finish(&mut self, rt: &HostRuntime) -> io::Result<()> {
-        self.begin(rt)?;
-        match &self.file {
-            Some(file) => settle(file),
-            None => Err(io::Error::from(ErrorKind::NotFound)),
+        match self.begun(rt) {
+            Ok(file) => settle(file),
+            Err(error) => Err(error),
         }
     }
 

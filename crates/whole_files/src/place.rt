@@ -97,9 +97,11 @@ fn existing(rt: &HostRuntime, path: &str, id: FileId) -> io::Result<Target> {
 
 /// The target of a file that isn't there: its folder must exist.
 fn new(rt: &HostRuntime, path: &str) -> io::Result<Target> {
-    let mut path = PathBuf::from_str(rt.alloc(), path)?;
+    let Ok(mut path) = PathBuf::from_str(rt.alloc(), path) else {
+        return Err(io::Error::from(ErrorKind::OutOfMemory));
+    };
     match follow_all(rt, &mut path) {
-        Ok(()) => in_its_folder(rt, path.as_str()),
+        Ok(()) => in_its_folder(rt, path.as_path()),
         Err(error) => Err(error),
     }
 }
@@ -107,8 +109,10 @@ fn new(rt: &HostRuntime, path: &str) -> io::Result<Target> {
 /// Follows a path to where there is no link.
 fn follow_all(rt: &HostRuntime, path: &mut PathBuf) -> io::Result<()> {
     for _ in 0..MAX_LINKS {
-        if !follow(rt, path)? {
-            return Ok(());
+        match follow(rt, path) {
+            Ok(true) => {}
+            Ok(false) => return Ok(()),
+            Err(error) => return Err(error),
         }
     }
     Err(io::Error::from(ErrorKind::FilesystemLoop))
@@ -119,8 +123,10 @@ fn follow(rt: &HostRuntime, path: &mut PathBuf) -> io::Result<bool> {
     match rt.read_link(rt.alloc(), path.as_str()) {
         Ok(to) => {
             path.pop();
-            path.push(to.as_str())?;
-            Ok(true)
+            match path.push(to.as_str()) {
+                Ok(()) => Ok(true),
+                Err(error) => Err(io::Error::from(error)),
+            }
         }
         Err(error) => match error.kind() {
             ErrorKind::OutOfMemory => Err(error),
@@ -131,13 +137,16 @@ fn follow(rt: &HostRuntime, path: &mut PathBuf) -> io::Result<bool> {
 
 /// The new file at a path, whose folder's links are followed. Error: `NotFound` where the path
 /// doesn't end in the name of a file, as `folder/` and `folder/..` do.
-fn in_its_folder(rt: &HostRuntime, path: &str) -> io::Result<Target> {
-    let path = Path::new(path);
+fn in_its_folder(rt: &HostRuntime, path: Path<'_>) -> io::Result<Target> {
     match path.file_name() {
         Some(name) if path.as_str().ends_with(name) => {
-            let mut whole = rt.canonicalize(rt.alloc(), folder_of(path))?;
-            whole.push(name)?;
-            Ok(Target::New(whole))
+            match rt.canonicalize(rt.alloc(), folder_of(path)) {
+                Ok(mut whole) => match whole.push(name) {
+                    Ok(()) => Ok(Target::New(whole)),
+                    Err(error) => Err(io::Error::from(error)),
+                },
+                Err(error) => Err(error),
+            }
         }
         _ => Err(io::Error::from(ErrorKind::NotFound)),
     }

@@ -17,15 +17,15 @@ pub enum Unwritten {
     Capture(ErrorKind),
 }
 
-/// What is done with both outputs, one after the other, so that each takes its place.
+/// A step of putting outputs in their places: it is taken with both before the next one.
 #[derive(Clone, Copy)]
 enum Step {
-    /// Its bytes are on the disk.
+    /// All bytes of a part are on the disk.
     Finish,
-    /// It is written in place, if it is one for that. This comes before any rename, since it can get
-    /// back what it had.
+    /// A file that no part can replace is written in place. This comes before any rename, since such
+    /// a file can get back what it had.
     Overwrite,
-    /// It is renamed, if it is a part.
+    /// A part takes the place of its target.
     Rename,
 }
 
@@ -90,12 +90,6 @@ fn missed(unwritten: Unwritten) -> Ended
     }
 }
 
-/// Nothing is left of both outputs, unless they are pipes or devices.
-fn undo_both(image: &mut WholeFile, capture: &mut WholeFile) {
-    image.undo();
-    capture.undo();
-}
-
 impl Placing {
     /// Nothing was renamed yet.
     pub fn new() -> Placing
@@ -137,31 +131,33 @@ impl Placing {
         ensures verdict { IfOk answer (λ yes. (result ≡ spec.kept yes)
             ⊎ ((unwritten : Unwritten) × (result ≡ spec.missed unwritten))) }
     {
-        match answer {
-            Ok(yes) => match self.place(image, capture) {
-                Ok(()) => Ended {
-                    answer: Ok(yes),
-                    unwritten: None,
-                },
-                Err(unwritten) => {
-                    undo_both(image, capture);
-                    missed(unwritten)
-                }
+        let ended = match answer {
+            Ok(yes) => self.keep(yes, image, capture),
+            Err(error) => refused(error, lost(image.fault, capture.fault)),
+        };
+        if ended.answer.is_err() {
+            image.undo();
+            capture.undo();
+        }
+        ended
+    }
+
+    /// The end of a command with this verdict, both of whose outputs are put in their places.
+    fn keep(&mut self, yes: bool, image: &mut WholeFile, capture: &mut WholeFile) -> Ended
+        ensures { (result ≡ spec.kept yes)
+            ⊎ ((unwritten : Unwritten) × (result ≡ spec.missed unwritten)) }
+    {
+        match self.place(image, capture) {
+            Ok(()) => Ended {
+                answer: Ok(yes),
+                unwritten: None,
             },
-            Err(error) => {
-                let lost = lost(image.fault, capture.fault);
-                undo_both(image, capture);
-                refused(error, lost)
-            }
+            Err(unwritten) => missed(unwritten),
         }
     }
 
     /// Puts both outputs in their places.
-    fn place(
-        &mut self,
-        image: &mut WholeFile,
-        capture: &mut WholeFile,
-    ) -> Result<(), Unwritten> {
+    fn place(&mut self, image: &mut WholeFile, capture: &mut WholeFile) -> Result<(), Unwritten> {
         match self.both(Step::Finish, image, capture) {
             Ok(()) => {}
             unfinished => return unfinished,

@@ -33,14 +33,6 @@ pub struct WholeFile {
     pub fault: Option<ErrorKind>,
 }
 
-/// The sink of a pipe or a device.
-fn stream(rt: &HostRuntime, path: &str) -> io::Result<Sink> {
-    match open_for_writing(rt, path, false) {
-        Ok(file) => Ok(Sink::Stream(file)),
-        Err(error) => Err(error),
-    }
-}
-
 /// The sink of a file that isn't there yet.
 fn new(rt: &HostRuntime, target: PathBuf) -> io::Result<Sink> {
     let mut part = Part::new(rt, target);
@@ -86,7 +78,10 @@ impl WholeFile {
     /// written, and `OutOfMemory`.
     pub fn open(rt: &HostRuntime, path: &str, target: Target) -> io::Result<WholeFile> {
         let sink = match target {
-            Target::Stream => stream(rt, path),
+            Target::Stream => match open_for_writing(rt, path, false) {
+                Ok(file) => Ok(Sink::Stream(file)),
+                Err(error) => Err(error),
+            },
             Target::Existing(_, resolved) => existing(rt, path, resolved),
             Target::New(path) => new(rt, path),
         };
