@@ -78,7 +78,7 @@ impl Told {
 }
 
 impl Part {
-    /// The part for a target that doesn't exist.
+    /// The part for a target, as for one that doesn't exist: `can_replace` says more of one that does.
     pub(crate) fn new(rt: &HostRuntime, target: PathBuf) -> Part {
         Part {
             target,
