@@ -8,7 +8,6 @@ use clap::error::ErrorKind as ParseError;
 use command_line::{Job, Outcome, Request, Source};
 use std::io;
 use std::io::ErrorKind;
-use std::rt::Files;
 use whole_files::{FileId, Identity, Named, Target, first_shared};
 
 /// The names by which the system knows the files of the standard streams.
@@ -74,7 +73,7 @@ fn files_of<'a>(job: &Job<'a>) -> Uses<'a> {
 }
 
 /// What tells the regular file at a path from others.
-fn existing<R: Files>(rt: &R, path: &str) -> Identity<'static> {
+fn existing(rt: &HostRuntime, path: &str) -> Identity<'static> {
     match FileId::at(rt, path) {
         Some(id) => Identity::Existing(id),
         None => Identity::Unknown,
@@ -82,7 +81,7 @@ fn existing<R: Files>(rt: &R, path: &str) -> Identity<'static> {
 }
 
 /// An input, with what tells it from other files.
-fn named<'a, R: Files>(rt: &R, input: Reads<'a>) -> Named<'a> {
+fn named<'a>(rt: &HostRuntime, input: Reads<'a>) -> Named<'a> {
     match input.source {
         Source::StandardInput => Named {
             name: "standard input",
@@ -97,7 +96,7 @@ fn named<'a, R: Files>(rt: &R, input: Reads<'a>) -> Named<'a> {
 
 /// The target of an output, if one is wanted; that a target can't be told is said when it is opened.
 /// Error: `OutOfMemory`.
-fn target<R: Files + AllocGlobal>(rt: &R, path: Option<&str>) -> io::Result<Option<Target>> {
+fn target(rt: &HostRuntime, path: Option<&str>) -> io::Result<Option<Target>> {
     let Some(path) = path else {
         return Ok(None);
     };
@@ -150,10 +149,7 @@ fn refuse_shared<'a>(rt: &impl Eprint, first: &str, second: &str) -> Performed<'
 }
 
 /// Refuses two outputs, or an output and an input, that are one file.
-fn check_shared<'a, R: Files + Eprint + AllocGlobal>(
-    rt: &R,
-    uses: Uses<'_>,
-) -> Result<(), Performed<'a>>
+fn check_shared<'a>(rt: &HostRuntime, uses: Uses<'_>) -> Result<(), Performed<'a>>
     ensures { IfErr result (λ p. (p.outcome ≡ Outcome.NoJob ParseError.ArgumentConflict true)
         ⊎ (p.outcome ≡ Outcome.Answered (Err Error.Memory))) }
 {
@@ -186,8 +182,8 @@ fn check_shared<'a, R: Files + Eprint + AllocGlobal>(
 }
 
 /// Refuses an output that is one of the images which are joined after the first one.
-fn check_further<'a, R: Files + Eprint + AllocGlobal>(
-    rt: &R,
+fn check_further<'a>(
+    rt: &HostRuntime,
     uses: Uses<'_>,
     further: &[Source<'_>],
 ) -> Result<(), Performed<'a>>
@@ -227,10 +223,7 @@ fn check_route<'a>(rt: &impl Eprint, job: &Job<'_>) -> Result<(), Performed<'a>>
 
 /// Looks at the files of a request before anything is read. An output that is named `-`, or is the
 /// same file as another output or an input, ends the run here.
-pub fn check_files<'a, R: Files + Eprint + AllocGlobal>(
-    rt: &R,
-    request: &Request<'_>,
-) -> Result<(), Performed<'a>>
+pub fn check_files<'a>(rt: &HostRuntime, request: &Request<'_>) -> Result<(), Performed<'a>>
     ensures { IfErr result (λ p. (p.outcome ≡ Outcome.NoJob ParseError.ArgumentConflict true)
         ⊎ (p.outcome ≡ Outcome.Answered (Err Error.Memory))) }
 {

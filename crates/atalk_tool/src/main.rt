@@ -5,6 +5,7 @@
 
 mod explain;
 mod files;
+mod keeper;
 mod keeping;
 mod objects;
 mod outputs;

@@ -9,7 +9,6 @@ use at_base::Error;
 use command_line::Outcome;
 use std::io;
 use std::io::ErrorKind;
-use std::rt::Files;
 use text::Output;
 use whole_files::{Ended, Placing, Target, Unwritten, WholeFile};
 
@@ -31,13 +30,13 @@ pub struct Missed<'a> {
 
 /// The outputs of a command, of which nothing is written yet.
 #[derive(Drop)]
-pub struct Outputs<'r, R: Files> {
-    pub image: Output<WholeFile<'r, R>>,
-    pub capture: Output<WholeFile<'r, R>>,
+pub struct Outputs {
+    pub image: Output<WholeFile>,
+    pub capture: Output<WholeFile>,
 }
 
 /// The output to the file with this name; nowhere without a name.
-fn open<'r, R: Files + AllocGlobal>(rt: &'r R, path: Option<&str>) -> io::Result<WholeFile<'r, R>> {
+fn open(rt: &HostRuntime, path: Option<&str>) -> io::Result<WholeFile> {
     match path {
         Some(path) => WholeFile::open(rt, path, Target::at(rt, path)?),
         None => Ok(WholeFile::nowhere(rt)),
@@ -52,9 +51,9 @@ fn refused<'a>(path: Option<&'a str>, kind: ErrorKind) -> Performed<'a> {
     }
 }
 
-impl<'r, R: Files + AllocGlobal> Outputs<'r, R> {
+impl Outputs {
     /// Looks at the files that are wanted: one that can't be written ends the run here.
-    pub fn open<'a>(rt: &'r R, wanted: Wanted<'a>) -> Result<Outputs<'r, R>, Performed<'a>> {
+    pub fn open<'a>(rt: &HostRuntime, wanted: Wanted<'a>) -> Result<Outputs, Performed<'a>> {
         let image = match open(rt, wanted.image) {
             Ok(image) => image,
             Err(error) => return Err(refused(wanted.image, error.kind())),
@@ -69,9 +68,9 @@ impl<'r, R: Files + AllocGlobal> Outputs<'r, R> {
     }
 
     /// Ends a command with this answer: its files are put in their places, or nothing is left of them.
-    pub fn end(self, rt: &'r R, answer: Result<bool, Error>) -> Ended
+    pub fn end(self, answer: Result<bool, Error>) -> Ended
         ensures error { IfErr answer (λ e. result ≡ spec.refused e
-            (spec.lost self.entry.image.writer.fault self.entry.capture.writer.fault)) }
+            (spec.lost self.image.writer.fault self.capture.writer.fault)) }
         ensures verdict { IfOk answer (λ yes. (result ≡ spec.kept yes)
             ⊎ ((unwritten : Unwritten) × (result ≡ spec.missed unwritten))) }
     {
@@ -81,7 +80,7 @@ impl<'r, R: Files + AllocGlobal> Outputs<'r, R> {
             writer: capture,
             ..
         } = capture;
-        Placing::new(rt).end(answer, image, capture)
+        Placing::new().end(answer, image, capture)
     }
 }
 

@@ -23,7 +23,7 @@ use commands::{answer_of, audit_file};
 use std::fs::File;
 use std::io;
 use std::io::Read;
-use std::rt::{Env, Files};
+use std::rt::Env;
 use text::Output;
 
 /// The arguments, the program's own name first.
@@ -60,11 +60,7 @@ fn audit_reader<'a, R: Print + AllocGlobal, S: Read + Drop>(
 }
 
 /// Audits the image of the source. If it is read from a terminal, a prompt is printed there.
-fn audit_source<'a, R: Files + Input + Print + Eprint + AllocGlobal>(
-    rt: &R,
-    it: Audited<'a>,
-    telling: Telling,
-) -> Performed<'a> {
+fn audit_source<'a>(rt: &HostRuntime, it: Audited<'a>, telling: Telling) -> Performed<'a> {
     match it.source {
         Source::StandardInput => {
             if telling.prompts {
@@ -88,11 +84,7 @@ fn word_of<'a>(source: Source<'a>) -> &'a str {
 }
 
 /// Audits one of several images, and returns the exit status.
-fn audit_one<R: Files + Input + Print + Eprint + AllocGlobal>(
-    rt: &R,
-    source: Source<'_>,
-    telling: Telling,
-) -> u8 {
+fn audit_one(rt: &HostRuntime, source: Source<'_>, telling: Telling) -> u8 {
     let name = word_of(source);
     let it = Audited {
         source,
@@ -103,8 +95,8 @@ fn audit_one<R: Files + Input + Print + Eprint + AllocGlobal>(
 
 /// Audits images, each as the only one would be, but that each line begins with the name of its
 /// image. Returns the worst of the exit statuses.
-fn audit_several<R: Files + Input + Print + Eprint + AllocGlobal>(
-    rt: &R,
+fn audit_several(
+    rt: &HostRuntime,
     first: Source<'_>,
     further: &[Source<'_>],
     telling: Telling,
@@ -175,11 +167,7 @@ fn refuse_arguments<'a>(rt: &impl Eprint, kind: io::ErrorKind) -> Performed<'a>
 }
 
 /// Performs the job of a request whose files are different ones.
-fn perform<'a, R: Files + Input + Print + Eprint + AllocGlobal>(
-    rt: &R,
-    request: &Request<'a>,
-    telling: Telling,
-) -> Performed<'a> {
+fn perform<'a>(rt: &HostRuntime, request: &Request<'a>, telling: Telling) -> Performed<'a> {
     match request.job {
         Job::Audit(source) => audit_source(rt, Audited { source, name: None }, telling),
         Job::Trace(image, script, capture) => {
@@ -214,11 +202,7 @@ fn perform<'a, R: Files + Input + Print + Eprint + AllocGlobal>(
 }
 
 /// Performs the job that the arguments ask for, and returns the exit status.
-fn run_arguments<R: Env + Files + Input + Print + Eprint + AllocGlobal>(
-    rt: &R,
-    arguments: &[String],
-    terminals: Terminals,
-) -> u8 {
+fn run_arguments(rt: &HostRuntime, arguments: &[String], terminals: Terminals) -> u8 {
     let request = match read_arguments(rt.alloc(), arguments) {
         Ok(request) => request,
         Err(error) => return answer(rt, &print_answer(rt, &error), None, terminals.telling()),
@@ -230,11 +214,7 @@ fn run_arguments<R: Env + Files + Input + Print + Eprint + AllocGlobal>(
 }
 
 /// Performs the job of a request, and returns the exit status.
-fn run_request<R: Files + Input + Print + Eprint + AllocGlobal>(
-    rt: &R,
-    request: &Request<'_>,
-    telling: Telling,
-) -> u8 {
+fn run_request(rt: &HostRuntime, request: &Request<'_>, telling: Telling) -> u8 {
     if let Err(refused) = check_files(rt, request) {
         return answer(rt, &refused, None, telling);
     }
@@ -247,10 +227,7 @@ fn run_request<R: Files + Input + Print + Eprint + AllocGlobal>(
 }
 
 /// Performs the job that the program's arguments ask for, and returns the exit status.
-pub fn run<R: Env + Files + Input + Print + Eprint + AllocGlobal>(
-    rt: &R,
-    terminals: Terminals,
-) -> u8 {
+pub fn run(rt: &HostRuntime, terminals: Terminals) -> u8 {
     match given_arguments(rt) {
         Ok(arguments) => run_arguments(rt, arguments.as_slice(), terminals),
         Err(error) => answer(

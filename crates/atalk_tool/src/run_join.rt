@@ -10,7 +10,6 @@ use command_line::{Outcome, Source};
 use commands::{Refused, answer_of, join_image, judge_image, read_image};
 use std::fs::File;
 use std::io::Read;
-use std::rt::Files;
 use table_image::Image;
 use text::Output;
 
@@ -35,8 +34,8 @@ fn refused_at<'a>(source: Source<'a>, refused: Refused) -> Performed<'a> {
 }
 
 /// Reads the image that the reader has, and joins it to the one of those before it, if there is one.
-fn read_part<'a, R: AllocGlobal, S: Read + Drop>(
-    rt: &R,
+fn read_part<'a, S: Read + Drop>(
+    rt: &HostRuntime,
     source: Source<'a>,
     before: Option<&Image>,
     mut reader: S,
@@ -53,8 +52,8 @@ fn read_part<'a, R: AllocGlobal, S: Read + Drop>(
 
 /// Reads the image of the source, and joins it to the one of those before it, if there is one. If it
 /// is read from a terminal, a prompt is printed there.
-fn open_part<'a, R: Files + Input + Print + Eprint + AllocGlobal>(
-    rt: &R,
+fn open_part<'a>(
+    rt: &HostRuntime,
     source: Source<'a>,
     before: Option<&Image>,
     telling: Telling,
@@ -74,8 +73,8 @@ fn open_part<'a, R: Files + Input + Print + Eprint + AllocGlobal>(
 }
 
 /// The image of all sources, joined from the first to the last.
-fn join_parts<'a, R: Files + Input + Print + Eprint + AllocGlobal>(
-    rt: &R,
+fn join_parts<'a>(
+    rt: &HostRuntime,
     job: JoinJob<'_, 'a>,
     telling: Telling,
 ) -> Result<Image, Performed<'a>> {
@@ -87,18 +86,18 @@ fn join_parts<'a, R: Files + Input + Print + Eprint + AllocGlobal>(
 }
 
 /// Prints the line of the verdict on the image on standard output; the image goes to an output.
-fn judge_joined<'a, R: Files + Print + AllocGlobal>(
-    rt: &R,
+fn judge_joined<'a>(
+    rt: &HostRuntime,
     job: JoinJob<'_, 'a>,
     image: Image,
-    mut outputs: Outputs<'_, R>,
+    mut outputs: Outputs,
     telling: Telling,
 ) -> Performed<'a> {
     let mut output = Output::new(rt.alloc(), Printing::new(rt, telling));
     let judged = judge_image(rt.alloc(), image, &mut output, &mut outputs.image);
     let image = judged.as_ref().ok().map(|judged| &judged.image);
     let answer = settle(rt, answer_of(&judged), image, None, telling);
-    let ended = outputs.end(rt, answer);
+    let ended = outputs.end(answer);
     Performed {
         outcome: Outcome::Answered(ended.answer),
         evidence: Evidence {
@@ -111,11 +110,7 @@ fn judge_joined<'a, R: Files + Print + AllocGlobal>(
 }
 
 /// Joins the images. The file for the image of all is looked at before anything is read.
-pub fn join_sources<'a, R: Files + Input + Print + Eprint + AllocGlobal>(
-    rt: &R,
-    job: JoinJob<'_, 'a>,
-    telling: Telling,
-) -> Performed<'a> {
+pub fn join_sources<'a>(rt: &HostRuntime, job: JoinJob<'_, 'a>, telling: Telling) -> Performed<'a> {
     let outputs = match Outputs::open(rt, job.wanted) {
         Ok(outputs) => outputs,
         Err(performed) => return performed,

@@ -18,7 +18,6 @@ use reply_advice::{Replies, Unanswered};
 use std::fs::File;
 use std::io;
 use std::io::{Read, Write};
-use std::rt::Files;
 use table_image::Version;
 use text::Output;
 
@@ -100,12 +99,12 @@ fn unanswered_of(
 
 /// Plays the internet file that the reader has, prints its lines on standard output, and writes its
 /// image and its capture to the outputs.
-fn play_outputs<R: Files + Print + Eprint + AllocGlobal, S: Read>(
-    rt: &R,
+fn play_outputs<S: Read>(
+    rt: &HostRuntime,
     job: PlayJob<'_>,
     reader: &mut S,
-    outputs: &mut Outputs<'_, R>,
-    watching: &mut Watching<'_, R>,
+    outputs: &mut Outputs,
+    watching: &mut Watching<'_, HostRuntime>,
     telling: Telling,
 ) -> Result<Played, Refused> {
     let alloc = rt.alloc();
@@ -128,11 +127,11 @@ fn play_outputs<R: Files + Print + Eprint + AllocGlobal, S: Read>(
 /// Plays the internet file that the reader has, and prints its lines on standard output; the image
 /// and the capture go to the outputs. If standard error is a terminal, the progress of a long play is
 /// printed there.
-fn play_reader<'a, R: Files + Print + Eprint + AllocGlobal, S: Read + Drop>(
-    rt: &R,
+fn play_reader<'a, S: Read + Drop>(
+    rt: &HostRuntime,
     job: PlayJob<'a>,
     reader: S,
-    mut outputs: Outputs<'_, R>,
+    mut outputs: Outputs,
     telling: Telling,
 ) -> Performed<'a> {
     let mut reader = Keeping::new(rt.alloc(), reader, telling.notes());
@@ -142,7 +141,7 @@ fn play_reader<'a, R: Files + Print + Eprint + AllocGlobal, S: Read + Drop>(
     let text = reader.into_text();
     let image = played.as_ref().ok().map(|it| &it.image);
     let answer = settle(rt, answer_of(&played), image, None, telling);
-    let ended = outputs.end(rt, answer);
+    let ended = outputs.end(answer);
     Performed {
         outcome: Outcome::Answered(ended.answer),
         evidence: Evidence {
@@ -158,8 +157,8 @@ fn play_reader<'a, R: Files + Print + Eprint + AllocGlobal, S: Read + Drop>(
 
 /// Plays the internet file that the reader has. The files that are to be written are looked at before
 /// anything is read.
-fn play_into<'a, R: Files + Print + Eprint + AllocGlobal, S: Read + Drop>(
-    rt: &R,
+fn play_into<'a, S: Read + Drop>(
+    rt: &HostRuntime,
     job: PlayJob<'a>,
     reader: S,
     telling: Telling,
@@ -171,11 +170,7 @@ fn play_into<'a, R: Files + Print + Eprint + AllocGlobal, S: Read + Drop>(
 }
 
 /// Plays an internet file. If it is read from a terminal, a prompt is printed there.
-pub fn play_source<'a, R: Files + Input + Print + Eprint + AllocGlobal>(
-    rt: &R,
-    job: PlayJob<'a>,
-    telling: Telling,
-) -> Performed<'a> {
+pub fn play_source<'a>(rt: &HostRuntime, job: PlayJob<'a>, telling: Telling) -> Performed<'a> {
     match job.source {
         Source::StandardInput => {
             if telling.prompts {

@@ -15,7 +15,6 @@ use commands::{Refused, answer_of, draw_image, make_bytes, show_image};
 use file_advice::Format;
 use std::fs::File;
 use std::io::{Read, writer};
-use std::rt::Files;
 use text::Output;
 use text::number::number;
 
@@ -37,18 +36,18 @@ pub enum Printed {
 
 /// Makes the image of the tables file that the reader has, and prints the line of its verdict on
 /// standard output; the image goes to an output.
-fn make_reader<'a, R: Files + Print + AllocGlobal, S: Read + Drop>(
-    rt: &R,
+fn make_reader<'a, S: Read + Drop>(
+    rt: &HostRuntime,
     job: MakeJob<'a>,
     mut reader: S,
-    mut outputs: Outputs<'_, R>,
+    mut outputs: Outputs,
     telling: Telling,
 ) -> Performed<'a> {
     let mut output = Output::new(rt.alloc(), Printing::new(rt, telling));
     let made = make_bytes(rt.alloc(), &mut reader, &mut output, &mut outputs.image);
     let image = made.as_ref().ok().map(|judged| &judged.image);
     let answer = settle(rt, answer_of(&made), image, None, telling);
-    let ended = outputs.end(rt, answer);
+    let ended = outputs.end(answer);
     Performed {
         outcome: Outcome::Answered(ended.answer),
         evidence: Evidence {
@@ -62,8 +61,8 @@ fn make_reader<'a, R: Files + Print + AllocGlobal, S: Read + Drop>(
 
 /// Makes the image of the tables file that the reader has. The file for the image is looked at before
 /// anything is read.
-fn make_into<'a, R: Files + Print + AllocGlobal, S: Read + Drop>(
-    rt: &R,
+fn make_into<'a, S: Read + Drop>(
+    rt: &HostRuntime,
     job: MakeJob<'a>,
     reader: S,
     telling: Telling,
@@ -75,11 +74,7 @@ fn make_into<'a, R: Files + Print + AllocGlobal, S: Read + Drop>(
 }
 
 /// Makes the image of a tables file. If it is read from a terminal, a prompt is printed there.
-pub fn make_source<'a, R: Files + Input + Print + Eprint + AllocGlobal>(
-    rt: &R,
-    job: MakeJob<'a>,
-    telling: Telling,
-) -> Performed<'a> {
+pub fn make_source<'a>(rt: &HostRuntime, job: MakeJob<'a>, telling: Telling) -> Performed<'a> {
     match job.source {
         Source::StandardInput => {
             if telling.prompts {
@@ -128,8 +123,8 @@ fn print_reader<'a, R: Print + AllocGlobal, S: Read + Drop>(
 
 /// Prints the tables file of an image, or its drawing. If the image is read from a terminal, a
 /// prompt is printed there.
-pub fn print_source<'a, R: Files + Input + Print + Eprint + AllocGlobal>(
-    rt: &R,
+pub fn print_source<'a>(
+    rt: &HostRuntime,
     source: Source<'a>,
     printed: Printed,
     telling: Telling,
@@ -157,8 +152,8 @@ fn refuse_network<'a>(rt: &impl Eprint, word: &str) -> Performed<'a>
 }
 
 /// Prints the drawing of an image, with the ways to the network that a word names, if there is one.
-pub fn draw_source<'a, R: Files + Input + Print + Eprint + AllocGlobal>(
-    rt: &R,
+pub fn draw_source<'a>(
+    rt: &HostRuntime,
     source: Source<'a>,
     to: Option<&'a str>,
     telling: Telling,

@@ -18,7 +18,6 @@ use rtmp::Routes;
 use script_advice::write_undone;
 use std::fs::File;
 use std::io::Read;
-use std::rt::Files;
 use text::Output;
 
 /// The sources of the image and the script of a trace, and the files that it is to write.
@@ -114,12 +113,12 @@ fn undone_of(
 
 /// Runs the script that one reader has over the image that the other has, and prints the trace on
 /// standard output; the capture goes to an output.
-fn trace_outputs<R: Files + Print + AllocGlobal, I: Read, S: Read>(
-    rt: &R,
+fn trace_outputs<I: Read, S: Read>(
+    rt: &HostRuntime,
     sources: Sources<'_>,
     image: &mut I,
     script: &mut S,
-    outputs: &mut Outputs<'_, R>,
+    outputs: &mut Outputs,
     refusals: &mut Refusals,
     telling: Telling,
 ) -> Result<Traced<Frozen<Routes>>, Refused> {
@@ -135,12 +134,12 @@ fn trace_outputs<R: Files + Print + AllocGlobal, I: Read, S: Read>(
 }
 
 /// Runs the script that one reader has over the image that the other has.
-fn trace_readers<'a, R: Files + Print + AllocGlobal, I: Read + Drop, S: Read + Drop>(
-    rt: &R,
+fn trace_readers<'a, I: Read + Drop, S: Read + Drop>(
+    rt: &HostRuntime,
     sources: Sources<'a>,
     mut image: I,
     script: S,
-    mut outputs: Outputs<'_, R>,
+    mut outputs: Outputs,
     telling: Telling,
 ) -> Performed<'a> {
     let mut script = Keeping::new(rt.alloc(), script, telling.notes());
@@ -155,7 +154,7 @@ fn trace_readers<'a, R: Files + Print + AllocGlobal, I: Read + Drop, S: Read + D
         telling,
     );
     let text = script.into_text();
-    let ended = outputs.end(rt, answer_of(&traced));
+    let ended = outputs.end(answer_of(&traced));
     Performed {
         outcome: Outcome::Answered(ended.answer),
         evidence: Evidence {
@@ -171,8 +170,8 @@ fn trace_readers<'a, R: Files + Print + AllocGlobal, I: Read + Drop, S: Read + D
 
 /// Runs a script over an image, both of which are open. The file for the capture is looked at before
 /// either is read.
-fn trace_opened<'a, R: Files + Print + AllocGlobal, I: Read + Drop, S: Read + Drop>(
-    rt: &R,
+fn trace_opened<'a, I: Read + Drop, S: Read + Drop>(
+    rt: &HostRuntime,
     sources: Sources<'a>,
     image: I,
     script: S,
@@ -185,8 +184,8 @@ fn trace_opened<'a, R: Files + Print + AllocGlobal, I: Read + Drop, S: Read + Dr
 }
 
 /// Runs the script of the source over the image that the reader has.
-fn trace_image<'a, R: Files + Input + Print + AllocGlobal, I: Read + Drop>(
-    rt: &R,
+fn trace_image<'a, I: Read + Drop>(
+    rt: &HostRuntime,
     sources: Sources<'a>,
     image: I,
     telling: Telling,
@@ -201,8 +200,8 @@ fn trace_image<'a, R: Files + Input + Print + AllocGlobal, I: Read + Drop>(
 }
 
 /// Runs a script over an image. Both files are opened before either is read.
-pub fn trace_sources<'a, R: Files + Input + Print + AllocGlobal>(
-    rt: &R,
+pub fn trace_sources<'a>(
+    rt: &HostRuntime,
     sources: Sources<'a>,
     telling: Telling,
 ) -> Performed<'a> {

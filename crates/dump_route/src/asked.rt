@@ -2,7 +2,7 @@
 
 use at_base::Error;
 use cabled::Peers;
-use file_router::{Given, given};
+use file_router::{Given, name_in};
 use std::env;
 use std::rt::Env;
 
@@ -36,7 +36,7 @@ pub(crate) fn asked<R: Env + AllocGlobal>(rt: &R) -> Result<Asked, Error> {
             2 => asked.router = word.parse::<usize>().unwrap_or(0).wrapping_sub(1),
             3 if word == "played" => asked.peers = Peers::Played,
             _ => {
-                if let Some(name) = given(rt.alloc(), word.as_bytes())? {
+                if let Some(name) = name_in(rt.alloc(), word.as_bytes())? {
                     asked.names.push(name)?;
                 }
             }

@@ -19,7 +19,7 @@ pub struct Given {
 /// The cable and the name in a word such as `3=eth0`: a number up to 255 in decimal, and all that
 /// follows the first equals sign, which is at least one byte. `None` for any other word. Error:
 /// `Memory`.
-pub fn given(alloc: Global, word: &[u8]) -> Result<Option<Given>, Error> {
+pub fn name_in(alloc: Global, word: &[u8]) -> Result<Option<Given>, Error> {
     let (front, name) = cut(b'=', word);
     match (byte(front), name) {
         (Some(cable), Some(name)) if !name.is_empty() => Ok(Some(Given {

@@ -7,5 +7,5 @@ mod given;
 mod image;
 
 pub use beginning::{Begun, begin};
-pub use given::{Given, given};
+pub use given::{Given, name_in};
 pub use image::image_of;

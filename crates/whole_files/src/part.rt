@@ -2,201 +2,223 @@
 
 ghost use Rattle.std.specs.Io.{WritesAtMost};
 
-use std::fs::{Metadata, OpenFile, OpenOptions, Permissions};
+use std::alloc::AllocError;
+use std::fs::{File, OpenOptions, Permissions};
+use std::io;
 use std::io::{ErrorKind, Write};
 use std::os::unix::fs::{MetadataExt, OpenOptionsExt, PermissionsExt};
 use std::path::PathBuf;
 use std::rt::Files;
-use std::{fs, io};
 
 /// The number of names for parts in one folder.
 const PARTS: u32 = 100;
 
-/// A part that is open.
-#[derive(Drop)]
-struct Begun<F> {
-    file: F,
-    path: PathBuf,
-}
-
 /// What is to replace a target. Its part is created by the first write.
 #[derive(Drop)]
-pub(crate) struct Part<F> {
+pub(crate) struct Part {
     target: PathBuf,
     /// The permissions of the target, if it exists.
     mode: Option<u32>,
-    begun: Option<Begun<F>>,
+    /// The path of the part, if it was created.
+    path: PathBuf,
+    /// The part, if it was created.
+    file: Option<File>,
 }
 
-/// A part that is whole, and its target.
-#[derive(Drop)]
-pub(crate) struct Whole {
-    pub(crate) part: PathBuf,
-    pub(crate) target: PathBuf,
+/// What the system says of a file.
+#[derive(Clone, Copy)]
+pub(crate) struct Told {
+    user: u32,
+    group: u32,
+    links: u64,
+    mode: u32,
 }
 
-/// Creates a part beside the target, under the first name that nothing has. Where the target exists,
-/// nobody else may read the part before it has the target's permissions.
-fn create<R: Files + AllocGlobal>(
-    rt: &R,
-    target: &PathBuf,
-    exists: bool,
-) -> io::Result<Begun<R::File>> {
+/// How a part is created: where the target exists, nobody else may read the part before it has the
+/// target's permissions.
+fn options(exists: bool) -> OpenOptions {
     let mut options = OpenOptions::new();
     options.write(true).create_new(true);
     if exists {
         options.mode(0o600);
     }
-    for number in 0..PARTS {
-        let name = format!(in rt.alloc(); "atalk-part-{number}")?;
-        let path = target.with_file_name(rt.alloc(), name.as_str())?;
-        match options.open(rt, &path) {
-            Ok(file) => return Ok(Begun { file, path }),
-            Err(error) if error.kind() == ErrorKind::AlreadyExists => {}
-            Err(error) => return Err(error),
-        }
-    }
-    Err(io::Error::from(ErrorKind::AlreadyExists))
-}
-
-/// Creates a part beside the target, with the permissions of the target if that exists. A part that
-/// can't have them is removed.
-fn begin<R: Files + AllocGlobal>(
-    rt: &R,
-    target: &PathBuf,
-    mode: Option<u32>,
-) -> io::Result<Begun<R::File>> {
-    let begun = create(rt, target, mode.is_some())?;
-    let done = match mode {
-        Some(mode) => begun.file.set_permissions(Permissions::from_mode(mode)),
-        None => Ok(()),
-    };
-    match done {
-        Ok(()) => Ok(begun),
-        Err(error) => {
-            let _ = fs::remove_file(rt, &begun.path);
-            Err(error)
-        }
-    }
+    options
 }
 
 /// Waits until a file is on the disk, where the disk can say so.
-pub(crate) fn settle<F: OpenFile>(file: &F) -> io::Result<()> {
+pub(crate) fn settle(file: &File) -> io::Result<()> {
     match file.sync_all() {
-        Err(error)
-            if error.kind() == ErrorKind::InvalidInput || error.kind() == ErrorKind::Unsupported =>
-            { Ok(()) }
-        done => done,
+        Ok(()) => Ok(()),
+        Err(error) => match error.kind() {
+            ErrorKind::InvalidInput | ErrorKind::Unsupported => Ok(()),
+            _ => Err(error),
+        },
     }
 }
 
-/// Whether a file with these properties can be replaced by a part with those: it has the same owner
-/// and group, and no other link leads to it.
-fn is_alike(target: &Metadata, part: &Metadata) -> bool {
-    target.uid() == part.uid() && target.gid() == part.gid() && target.nlink() <= 1
+impl Told {
+    /// What it says of an open file.
+    fn of(file: &File) -> io::Result<Told> {
+        match file.metadata() {
+            Ok(metadata) => Ok(Told {
+                user: metadata.uid(),
+                group: metadata.gid(),
+                links: metadata.nlink(),
+                mode: metadata.mode(),
+            }),
+            Err(error) => Err(error),
+        }
+    }
+
+    /// Whether a file like this can be replaced by a part like that: it has the same owner and group,
+    /// and no other link leads to it.
+    fn is_alike(self, part: Told) -> bool {
+        self.user == part.user && self.group == part.group && self.links <= 1
+    }
 }
 
-/// Creates a part beside the target and removes it, and returns what the system says of it.
-fn try_out<R: Files + AllocGlobal>(
-    rt: &R,
-    target: &PathBuf,
-    mode: Option<u32>,
-) -> io::Result<Metadata> {
-    let Begun { file, path } = begin(rt, target, mode)?;
-    let metadata = file.metadata();
-    fs::remove_file(rt, &path)?;
-    metadata
-}
-
-impl<F: OpenFile + Write + Drop> Part<F> {
-    /// The part for a target that doesn't exist. Errors: that none can be created, and `OutOfMemory`.
-    pub(crate) fn for_new<R: Files<File = F> + AllocGlobal>(
-        rt: &R,
-        target: PathBuf,
-    ) -> io::Result<Part<F>> {
-        try_out(rt, &target, None)?;
-        Ok(Part {
+impl Part {
+    /// The part for a target, as for one that doesn't exist: `can_replace` says more of one that does.
+    pub(crate) fn new(rt: &HostRuntime, target: PathBuf) -> Part {
+        Part {
             target,
             mode: None,
-            begun: None,
-        })
+            path: PathBuf::new(rt.alloc()),
+            file: None,
+        }
     }
 
-    /// The part for a target that exists; `None` if it can't be replaced by one. Error: `OutOfMemory`.
-    pub(crate) fn for_existing<R: Files<File = F> + AllocGlobal>(
-        rt: &R,
-        target: PathBuf,
-        metadata: &Metadata,
-    ) -> io::Result<Option<Part<F>>> {
-        let mode = Some(metadata.permissions().mode());
-        match try_out(rt, &target, mode) {
-            Ok(part) if is_alike(metadata, &part) => Ok(Some(Part {
-                target,
-                mode,
-                begun: None,
-            })),
-            Err(error) if error.kind() == ErrorKind::OutOfMemory => Err(error),
-            _ => Ok(None),
+    /// Whether the part can replace the target, which exists and is open. It then gets the permissions
+    /// of the target. Error: `OutOfMemory`.
+    pub(crate) fn can_replace(&mut self, rt: &HostRuntime, file: &File) -> io::Result<bool> {
+        let target = match Told::of(file) {
+            Ok(target) => target,
+            Err(error) => return Err(error),
+        };
+        self.mode = Some(target.mode);
+        match self.try_out(rt) {
+            Ok(part) => Ok(target.is_alike(part)),
+            Err(error) => match error.kind() {
+                ErrorKind::OutOfMemory => Err(error),
+                _ => Ok(false),
+            },
+        }
+    }
+
+    /// Creates the part and removes it, and returns what the system says of it.
+    pub(crate) fn try_out(&mut self, rt: &HostRuntime) -> io::Result<Told> {
+        match self.begun(rt) {
+            Ok(file) => {
+                let told = Told::of(file);
+                match self.remove(rt) {
+                    Ok(()) => told,
+                    Err(error) => Err(error),
+                }
+            }
+            Err(error) => Err(error),
+        }
+    }
+
+    /// The part. It is created, if that wasn't done yet, with the permissions of the target if that
+    /// exists; one that can't have them is removed.
+    fn begun(&mut self, rt: &HostRuntime) -> io::Result<&mut File> {
+        match self.begin(rt) {
+            Ok(()) => match &mut self.file {
+                Some(file) => Ok(file),
+                None => Err(io::Error::from(ErrorKind::NotFound)),
+            },
+            Err(error) => Err(error),
         }
     }
 
     /// Creates the part, if that wasn't done yet.
-    fn begin<R: Files<File = F> + AllocGlobal>(&mut self, rt: &R) -> io::Result<()> {
-        if self.begun.is_none() {
-            self.begun = Some(begin(rt, &self.target, self.mode)?);
+    fn begin(&mut self, rt: &HostRuntime) -> io::Result<()> {
+        if self.file.is_some() {
+            return Ok(());
         }
+        match self.create(rt) {
+            Ok(()) => self.permit(rt),
+            Err(error) => Err(error),
+        }
+    }
+
+    /// Creates the part beside the target, under the first name that nothing has.
+    fn create(&mut self, rt: &HostRuntime) -> io::Result<()> {
+        for number in 0..PARTS {
+            self.set_number(rt, number)?;
+            match self.create_here(rt) {
+                Ok(()) => return Ok(()),
+                Err(error) => match error.kind() {
+                    ErrorKind::AlreadyExists => {}
+                    _ => return Err(error),
+                },
+            }
+        }
+        Err(io::Error::from(ErrorKind::AlreadyExists))
+    }
+
+    /// Gives the part the name with this number.
+    fn set_number(&mut self, rt: &HostRuntime, number: u32) -> Result<(), AllocError> {
+        let name = format!(in rt.alloc(); "atalk-part-{number}")?;
+        self.path = self.target.with_file_name(rt.alloc(), name.as_str())?;
         Ok(())
     }
 
-    /// Writes bytes to the part.
-    pub(crate) fn write<R: Files<File = F> + AllocGlobal>(
-        &mut self,
-        rt: &R,
-        bytes: &[u8],
-    ) -> io::Result<usize>
-        ensures { WritesAtMost result bytes.now }
-    {
-        self.begin(rt)?;
-        match &mut self.begun {
-            Some(begun) => begun.file.write(bytes),
-            None => Err(io::Error::from(ErrorKind::NotFound)),
+    /// Creates the part at its path.
+    fn create_here(&mut self, rt: &HostRuntime) -> io::Result<()> {
+        match rt.open_file(&options(self.mode.is_some()), self.path.as_str()) {
+            Ok(file) => {
+                self.file = Some(file);
+                Ok(())
+            }
+            Err(error) => Err(error),
         }
     }
 
-    /// Removes the part, if it was created.
-    pub(crate) fn discard<R: Files<File = F>>(self, rt: &R) {
-        let Part { begun, .. } = self;
-        if let Some(begun) = begun {
-            let _ = fs::remove_file(rt, &begun.path);
-        }
-    }
-
-    /// Closes the part, all of which is on the disk then. Where it can't be, it is removed.
-    pub(crate) fn finish<R: Files<File = F> + AllocGlobal>(mut self, rt: &R) -> io::Result<Whole> {
-        match self.sync(rt) {
-            Ok(()) => self.closed(),
+    /// Gives the part the permissions of the target, if that exists. A part that can't have them is
+    /// removed.
+    fn permit(&mut self, rt: &HostRuntime) -> io::Result<()> {
+        let (Some(file), Some(mode)) = (&self.file, self.mode) else {
+            return Ok(());
+        };
+        match file.set_permissions(Permissions::from_mode(mode)) {
+            Ok(()) => Ok(()),
             Err(error) => {
-                self.discard(rt);
+                let _ = self.remove(rt);
                 Err(error)
             }
         }
     }
 
-    /// Creates the part if nothing was written, and waits until it is on the disk.
-    fn sync<R: Files<File = F> + AllocGlobal>(&mut self, rt: &R) -> io::Result<()> {
-        self.begin(rt)?;
-        match &self.begun {
-            Some(begun) => settle(&begun.file),
-            None => Err(io::Error::from(ErrorKind::NotFound)),
+    /// Writes bytes to the part.
+    pub(crate) fn write(&mut self, rt: &HostRuntime, bytes: &[u8]) -> io::Result<usize>
+        ensures { WritesAtMost result bytes.now }
+    {
+        match self.begun(rt) {
+            Ok(file) => file.write(bytes),
+            Err(error) => Err(error),
         }
     }
 
-    /// The part without its file.
-    fn closed(self) -> io::Result<Whole> {
-        let Part { target, begun, .. } = self;
-        match begun {
-            Some(Begun { path, .. }) => Ok(Whole { part: path, target }),
-            None => Err(io::Error::from(ErrorKind::NotFound)),
+    /// Waits until the part is on the disk. It is created if nothing was written.
+    pub(crate) fn finish(&mut self, rt: &HostRuntime) -> io::Result<()> {
+        match self.begun(rt) {
+            Ok(file) => settle(file),
+            Err(error) => Err(error),
         }
+    }
+
+    /// Puts the part in the place of its target.
+    pub(crate) fn rename(&self, rt: &HostRuntime) -> io::Result<()> {
+        rt.rename(self.path.as_str(), self.target.as_str())
+    }
+
+    /// Removes the part, if it was created.
+    pub(crate) fn remove(&mut self, rt: &HostRuntime) -> io::Result<()> {
+        if self.file.is_none() {
+            return Ok(());
+        }
+        self.file = None;
+        rt.remove_file(self.path.as_str())
     }
 }

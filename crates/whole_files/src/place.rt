@@ -1,11 +1,13 @@
 //! The file that a path names as an output.
 
+ghost use Rattle.std.specs.Prelude.{◌≡◌, ◌==◌, ◌&&◌};
+
 use std::fs::Metadata;
+use std::io;
 use std::io::ErrorKind;
 use std::os::unix::fs::MetadataExt;
-use std::path::PathBuf;
+use std::path::{Path, PathBuf};
 use std::rt::Files;
-use std::{fs, io};
 
 /// The greatest number of links that are followed from a path to a file that isn't there, as Linux
 /// has it.
@@ -31,10 +33,17 @@ impl FileId {
         }
     }
 
+    /// Whether the two are one file.
+    pub(crate) fn is(self, other: FileId) -> bool
+        ensures { result ≡ (self.device == other.device) && (self.inode == other.inode) }
+    {
+        self.device == other.device && self.inode == other.inode
+    }
+
     /// The identity of the regular file at a path, if there is one.
-    pub fn at<R: Files>(rt: &R, path: &str) -> Option<FileId> {
-        match fs::metadata(rt, path) {
-            Ok(metadata) => FileId::of(&metadata),
+    pub fn at(rt: &HostRuntime, path: &str) -> Option<FileId> {
+        match found(rt, path) {
+            Ok(id) => id,
             Err(_) => None,
         }
     }
@@ -54,71 +63,99 @@ pub enum Target {
 impl Target {
     /// The target that a path names; links are followed to their ends. Errors: those of the system,
     /// and `OutOfMemory`.
-    pub fn at<R: Files + AllocGlobal>(rt: &R, path: &str) -> io::Result<Target> {
-        match fs::metadata(rt, path) {
-            Ok(metadata) => match FileId::of(&metadata) {
-                Some(id) => Ok(Target::Existing(id, resolved(rt, path)?)),
-                None => Ok(Target::Stream),
+    pub fn at(rt: &HostRuntime, path: &str) -> io::Result<Target> {
+        match found(rt, path) {
+            Ok(Some(id)) => existing(rt, path, id),
+            Ok(None) => Ok(Target::Stream),
+            Err(error) => match error.kind() {
+                ErrorKind::NotFound => new(rt, path),
+                _ => Err(error),
             },
-            Err(error) if error.kind() == ErrorKind::NotFound => {
-                Ok(Target::New(new_path(rt, path)?))
-            }
-            Err(error) => Err(error),
         }
     }
 }
 
-/// The path of a file that exists without any link, if it can be told: a file that was deleted, and
-/// is reached through its descriptor, has none. Error: `OutOfMemory`.
-fn resolved<R: Files + AllocGlobal>(rt: &R, path: &str) -> io::Result<Option<PathBuf>> {
-    let path = PathBuf::from_str(rt.alloc(), path)?;
-    match path.canonicalize(rt) {
-        Ok(path) => Ok(Some(path)),
-        Err(error) if error.kind() == ErrorKind::OutOfMemory => Err(error),
-        Err(_) => Ok(None),
+/// What is at a path: the identity of a regular file, `None` for all else.
+fn found(rt: &HostRuntime, path: &str) -> io::Result<Option<FileId>> {
+    match rt.metadata(path) {
+        Ok(metadata) => Ok(FileId::of(&metadata)),
+        Err(error) => Err(error),
     }
 }
 
-/// The path of a file that isn't there, without any link: its folder must exist.
-fn new_path<R: Files + AllocGlobal>(rt: &R, path: &str) -> io::Result<PathBuf> {
-    let mut path = PathBuf::from_str(rt.alloc(), path)?;
+/// The target of a file that exists, with its path without any link, if that can be told: a file that
+/// was deleted, and is reached through its descriptor, has none. Error: `OutOfMemory`.
+fn existing(rt: &HostRuntime, path: &str, id: FileId) -> io::Result<Target> {
+    match rt.canonicalize(rt.alloc(), path) {
+        Ok(path) => Ok(Target::Existing(id, Some(path))),
+        Err(error) => match error.kind() {
+            ErrorKind::OutOfMemory => Err(error),
+            _ => Ok(Target::Existing(id, None)),
+        },
+    }
+}
+
+/// The target of a file that isn't there: its folder must exist.
+fn new(rt: &HostRuntime, path: &str) -> io::Result<Target> {
+    let Ok(mut path) = PathBuf::from_str(rt.alloc(), path) else {
+        return Err(io::Error::from(ErrorKind::OutOfMemory));
+    };
+    match follow_all(rt, &mut path) {
+        Ok(()) => in_its_folder(rt, path.as_path()),
+        Err(error) => Err(error),
+    }
+}
+
+/// Follows a path to where there is no link.
+fn follow_all(rt: &HostRuntime, path: &mut PathBuf) -> io::Result<()> {
     for _ in 0..MAX_LINKS {
-        match linked(rt, &path)? {
-            Some(next) => path = next,
-            None => return in_its_folder(rt, &path),
+        match follow(rt, path) {
+            Ok(true) => {}
+            Ok(false) => return Ok(()),
+            Err(error) => return Err(error),
         }
     }
     Err(io::Error::from(ErrorKind::FilesystemLoop))
 }
 
-/// The path that a symbolic link leads to; `None` if this is no link.
-fn linked<R: Files + AllocGlobal>(rt: &R, path: &PathBuf) -> io::Result<Option<PathBuf>> {
-    match path.read_link(rt) {
-        Ok(to) => Ok(Some(match path.parent() {
-            Some(folder) => folder.join(rt.alloc(), to.as_str())?,
-            None => to,
-        })),
-        Err(error) if error.kind() == ErrorKind::OutOfMemory => Err(error),
-        Err(_) => Ok(None),
+/// Puts the path that a symbolic link leads to in the place of its own, if this is a link.
+fn follow(rt: &HostRuntime, path: &mut PathBuf) -> io::Result<bool> {
+    match rt.read_link(rt.alloc(), path.as_str()) {
+        Ok(to) => {
+            path.pop();
+            match path.push(to.as_str()) {
+                Ok(()) => Ok(true),
+                Err(error) => Err(io::Error::from(error)),
+            }
+        }
+        Err(error) => match error.kind() {
+            ErrorKind::OutOfMemory => Err(error),
+            _ => Ok(false),
+        },
     }
 }
 
-/// The path with its folder's links followed. Error: `NotFound` where it doesn't end in the name of
-/// a file, as `folder/` and `folder/..` do.
-fn in_its_folder<R: Files + AllocGlobal>(rt: &R, path: &PathBuf) -> io::Result<PathBuf> {
+/// The new file at a path, whose folder's links are followed. Error: `NotFound` where the path
+/// doesn't end in the name of a file, as `folder/` and `folder/..` do.
+fn in_its_folder(rt: &HostRuntime, path: Path<'_>) -> io::Result<Target> {
     match path.file_name() {
         Some(name) if path.as_str().ends_with(name) => {
-            let folder = folder_of(rt, path)?;
-            Ok(folder.join(rt.alloc(), name)?)
+            match rt.canonicalize(rt.alloc(), folder_of(path)) {
+                Ok(mut whole) => match whole.push(name) {
+                    Ok(()) => Ok(Target::New(whole)),
+                    Err(error) => Err(io::Error::from(error)),
+                },
+                Err(error) => Err(error),
+            }
         }
         _ => Err(io::Error::from(ErrorKind::NotFound)),
     }
 }
 
-/// The folder of a path, without any link: where the path is only a name, the current one.
-fn folder_of<R: Files + AllocGlobal>(rt: &R, path: &PathBuf) -> io::Result<PathBuf> {
+/// The folder of a path: where the path is only a name, the current one.
+fn folder_of<'a>(path: Path<'a>) -> &'a str {
     match path.parent() {
-        Some(folder) if !folder.as_str().is_empty() => folder.canonicalize(rt),
-        _ => PathBuf::from_str(rt.alloc(), ".")?.canonicalize(rt),
+        Some(folder) if !folder.as_str().is_empty() => folder.as_str(),
+        _ => ".",
     }
 }

@@ -4,14 +4,11 @@ ghost use Rattle.std.specs.Prelude.{◌≡◌, ◌⊎◌, IfErr, IfOk, false, tr
 ghost use Rattle.whole_files.specs.declared.placing.Unwritten.{Unwritten};
 ghost use Rattle.whole_files.specs.Ends as spec;
 
-use crate::over::{Over, Overwritten};
-use crate::part::Whole;
+use crate::part::Part;
 use crate::whole_file::{Sink, WholeFile};
 use at_base::Error;
-use std::fs::OpenFile;
-use std::io::{ErrorKind, Read, Seek, Write};
-use std::rt::Files;
-use std::{fs, io};
+use std::io;
+use std::io::ErrorKind;
 
 /// An output of a command that couldn't be written, and why.
 #[derive(Clone, Copy)]
@@ -20,17 +17,16 @@ pub enum Unwritten {
     Capture(ErrorKind),
 }
 
-/// An output all of whose bytes are written to where they wait for the command's end.
-#[derive(Drop)]
-enum Ready<F> {
-    /// Nothing is left to do.
-    Done,
-    /// The bytes are to be written in place.
-    Over(Over<F>),
-    /// The bytes are written in place.
-    Overwritten(Overwritten<F>),
-    /// The part is to be renamed.
-    Part(Whole),
+/// A step of putting outputs in their places: it is taken with both before the next one.
+#[derive(Clone, Copy)]
+enum Step {
+    /// All bytes of a part are on the disk.
+    Finish,
+    /// A file that no part can replace is written in place. This comes before any rename, since such
+    /// a file can get back what it had.
+    Overwrite,
+    /// A part takes the place of its target.
+    Rename,
 }
 
 /// How a command ended.
@@ -43,9 +39,8 @@ pub struct Ended {
 }
 
 /// Puts parts in the places of their targets.
-#[derive(Drop)]
-pub struct Placing<'a, R> {
-    rt: &'a R,
+#[derive(Clone, Copy)]
+pub struct Placing {
     /// Whether a rename was asked for.
     pub asked: bool,
 }
@@ -57,18 +52,6 @@ fn error_of(kind: ErrorKind) -> Error
     match kind {
         ErrorKind::OutOfMemory => Error::Memory,
         _ => Error::WriteFault,
-    }
-}
-
-impl Unwritten {
-    /// Why it couldn't be written.
-    fn kind(self) -> ErrorKind
-        ensures { result ≡ spec.kind_of self }
-    {
-        match self {
-            Unwritten::Image(kind) => kind,
-            Unwritten::Capture(kind) => kind,
-        }
     }
 }
 
@@ -100,32 +83,19 @@ fn refused(error: Error, lost: Option<Unwritten>) -> Ended
 fn missed(unwritten: Unwritten) -> Ended
     ensures { result ≡ spec.missed unwritten }
 {
+    let (Unwritten::Image(kind) | Unwritten::Capture(kind)) = unwritten;
     Ended {
-        answer: Err(error_of(unwritten.kind())),
+        answer: Err(error_of(kind)),
         unwritten: Some(unwritten),
     }
 }
 
-/// An output all of whose bytes are written to where they wait for the end.
-fn make_ready<R: Files + AllocGlobal>(file: WholeFile<'_, R>) -> Result<Ready<R::File>, ErrorKind> {
-    let WholeFile { rt, sink, .. } = file;
-    match sink {
-        Sink::Nowhere => Ok(Ready::Done),
-        Sink::Stream(_) => Ok(Ready::Done),
-        Sink::Over(over) => Ok(Ready::Over(over)),
-        Sink::Part(part) => match part.finish(rt) {
-            Ok(whole) => Ok(Ready::Part(whole)),
-            Err(error) => Err(error.kind()),
-        },
-    }
-}
-
-impl<'a, R: Files + AllocGlobal> Placing<'a, R> {
+impl Placing {
     /// Nothing was renamed yet.
-    pub fn new(rt: &'a R) -> Placing<'a, R>
+    pub fn new() -> Placing
         ensures { result.asked ≡ false }
     {
-        Placing { rt, asked: false }
+        Placing { asked: false }
     }
 
     /// Ends a command with this answer. If that is a verdict, its outputs are put in their places, or
@@ -133,135 +103,109 @@ impl<'a, R: Files + AllocGlobal> Placing<'a, R> {
     pub fn end(
         &mut self,
         answer: Result<bool, Error>,
-        image: WholeFile<'a, R>,
-        capture: WholeFile<'a, R>,
+        mut image: WholeFile,
+        mut capture: WholeFile,
     ) -> Ended
         // After an error no rename was asked for, and the end is that error; where a write failed,
         // with the output that it was of.
         ensures none { IfErr answer (λ _. self.new.asked ≡ self.old.asked) }
         ensures error { IfErr answer (λ e. result
-            ≡ spec.refused e (spec.lost image.entry.fault capture.entry.fault)) }
+            ≡ spec.refused e (spec.lost image.fault capture.fault)) }
         // After a verdict the end is that verdict, or names the output that couldn't be written.
         ensures verdict { IfOk answer (λ yes. (result ≡ spec.kept yes)
             ⊎ ((unwritten : Unwritten) × (result ≡ spec.missed unwritten))) }
     {
-        match answer {
-            Ok(yes) => match self.keep(image, capture) {
-                Ok(()) => Ended {
-                    answer: Ok(yes),
-                    unwritten: None,
-                },
-                Err(unwritten) => missed(unwritten),
-            },
-            Err(error) => {
-                let lost = lost(image.fault, capture.fault);
-                image.discard();
-                capture.discard();
-                refused(error, lost)
-            }
-        }
+        self.end_both(answer, &mut image, &mut capture)
     }
 
-    /// Makes both outputs whole, and puts them in their places.
-    fn keep(
+    /// The same, of outputs that the caller lets go of.
+    fn end_both(
         &mut self,
-        image: WholeFile<'a, R>,
-        capture: WholeFile<'a, R>,
-    ) -> Result<(), Unwritten> {
-        let image = match make_ready(image) {
-            Ok(image) => image,
-            Err(kind) => {
-                capture.discard();
-                return Err(Unwritten::Image(kind));
-            }
+        answer: Result<bool, Error>,
+        image: &mut WholeFile,
+        capture: &mut WholeFile,
+    ) -> Ended
+        ensures none { IfErr answer (λ _. self.new.asked ≡ self.old.asked) }
+        ensures error { IfErr answer (λ e. result
+            ≡ spec.refused e (spec.lost image.old.fault capture.old.fault)) }
+        ensures verdict { IfOk answer (λ yes. (result ≡ spec.kept yes)
+            ⊎ ((unwritten : Unwritten) × (result ≡ spec.missed unwritten))) }
+    {
+        let ended = match answer {
+            Ok(yes) => self.keep(yes, image, capture),
+            Err(error) => refused(error, lost(image.fault, capture.fault)),
         };
-        match make_ready(capture) {
-            Ok(capture) => self.place(image, capture),
-            Err(kind) => {
-                self.undo(image);
-                Err(Unwritten::Capture(kind))
-            }
+        if ended.answer.is_err() {
+            image.undo();
+            capture.undo();
         }
+        ended
     }
 
-    /// Puts both outputs in their places. First those that are written in place, since these can get
-    /// back what they had.
-    fn place(&mut self, image: Ready<R::File>, capture: Ready<R::File>) -> Result<(), Unwritten> {
-        let image = match self.overwrite(image) {
-            Ok(image) => image,
-            Err(kind) => {
-                self.undo(capture);
-                return Err(Unwritten::Image(kind));
-            }
-        };
-        let capture = match self.overwrite(capture) {
-            Ok(capture) => capture,
-            Err(kind) => {
-                self.undo(image);
-                return Err(Unwritten::Capture(kind));
-            }
-        };
-        let renamed = self.rename_both(&image, &capture);
-        if renamed.is_err() {
-            self.undo(image);
-            self.undo(capture);
-        }
-        renamed
-    }
-
-    /// Writes an output in place, if it is one for that.
-    fn overwrite(&self, ready: Ready<R::File>) -> Result<Ready<R::File>, ErrorKind> {
-        match ready {
-            Ready::Over(over) => match over.write(self.rt.alloc()) {
-                Ok(overwritten) => Ok(Ready::Overwritten(overwritten)),
-                Err(error) => Err(error.kind()),
+    /// The end of a command with this verdict, both of whose outputs are put in their places.
+    fn keep(&mut self, yes: bool, image: &mut WholeFile, capture: &mut WholeFile) -> Ended
+        ensures { (result ≡ spec.kept yes)
+            ⊎ ((unwritten : Unwritten) × (result ≡ spec.missed unwritten)) }
+    {
+        match self.place(image, capture) {
+            Ok(()) => Ended {
+                answer: Ok(yes),
+                unwritten: None,
             },
-            other => Ok(other),
+            Err(unwritten) => missed(unwritten),
         }
     }
 
-    /// Puts the parts in the places of their targets.
-    fn rename_both(
-        &mut self,
-        image: &Ready<R::File>,
-        capture: &Ready<R::File>,
-    ) -> Result<(), Unwritten> {
-        if let Err(kind) = self.rename(image) {
-            return Err(Unwritten::Image(kind));
+    /// Puts both outputs in their places.
+    fn place(&mut self, image: &mut WholeFile, capture: &mut WholeFile) -> Result<(), Unwritten> {
+        match self.both(Step::Finish, image, capture) {
+            Ok(()) => {}
+            unfinished => return unfinished,
         }
-        match self.rename(capture) {
+        match self.both(Step::Overwrite, image, capture) {
+            Ok(()) => {}
+            unwritten => return unwritten,
+        }
+        self.both(Step::Rename, image, capture)
+    }
+
+    /// Takes a step with both outputs.
+    fn both(
+        &mut self,
+        step: Step,
+        image: &mut WholeFile,
+        capture: &mut WholeFile,
+    ) -> Result<(), Unwritten> {
+        if let Err(error) = self.take(step, image) {
+            return Err(Unwritten::Image(error.kind()));
+        }
+        match self.take(step, capture) {
             Ok(()) => Ok(()),
-            Err(kind) => Err(Unwritten::Capture(kind)),
+            Err(error) => Err(Unwritten::Capture(error.kind())),
         }
     }
 
-    /// Puts an output in the place of its target, if it is a part.
-    fn rename(&mut self, ready: &Ready<R::File>) -> Result<(), ErrorKind> {
-        match ready {
-            Ready::Part(whole) => self.ask(whole),
+    /// Takes a step with an output.
+    fn take(&mut self, step: Step, file: &mut WholeFile) -> io::Result<()> {
+        match &mut file.sink {
+            Sink::Part(part) => match step {
+                Step::Finish => part.finish(&file.rt),
+                Step::Overwrite => Ok(()),
+                Step::Rename => self.ask(&file.rt, part),
+            },
+            Sink::Over(over) => match step {
+                Step::Overwrite => over.write(),
+                _ => Ok(()),
+            },
             _ => Ok(()),
         }
     }
 
     /// Asks the system to put a part in the place of its target.
-    fn ask(&mut self, whole: &Whole) -> Result<(), ErrorKind>
+    fn ask(&mut self, rt: &HostRuntime, part: &Part) -> io::Result<()>
         ensures { self.new.asked ≡ true }
     {
         self.asked = true;
-        match fs::rename(self.rt, &whole.part, &whole.target) {
-            Ok(()) => Ok(()),
-            Err(error) => Err(error.kind()),
-        }
-    }
-
-    /// Removes what waits for its end, and gives a file that was written in place what it had.
-    fn undo(&self, ready: Ready<R::File>) {
-        match ready {
-            Ready::Done | Ready::Over(_) => {}
-            Ready::Overwritten(mut overwritten) => overwritten.undo(),
-            Ready::Part(whole) => {
-                let _ = fs::remove_file(self.rt, &whole.part);
-            }
-        }
+        part.rename(rt)
     }
 }

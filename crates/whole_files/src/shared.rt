@@ -26,15 +26,19 @@ pub struct Named<'a> {
 }
 
 /// Whether the two are one file.
-fn is_same(first: &Identity<'_>, second: &Identity<'_>) -> bool
-    ensures { result ≡ spec.is_same first.now second.now }
+fn is_same(first: Identity<'_>, second: Identity<'_>) -> bool
+    ensures { result ≡ spec.is_same first.entry second.entry }
 {
-    match (first, second) {
-        (Identity::Existing(first), Identity::Existing(second)) => {
-            first.device == second.device && first.inode == second.inode
-        }
-        (Identity::New(first), Identity::New(second)) => first.as_bytes() == second.as_bytes(),
-        _ => false,
+    match first {
+        Identity::Unknown => false,
+        Identity::Existing(first) => match second {
+            Identity::Existing(second) => first.is(second),
+            _ => false,
+        },
+        Identity::New(first) => match second {
+            Identity::New(second) => first.as_bytes() == second.as_bytes(),
+            _ => false,
+        },
     }
 }
 
@@ -46,7 +50,7 @@ fn twin_of<'a>(file: &Named<'_>, others: &[Named<'a>]) -> Option<Named<'a>>
     match others {
         [] => None,
         [first, rest @ ..] => {
-            if is_same(&file.identity, &first.identity) {
+            if is_same(file.identity, first.identity) {
                 Some(*first)
             } else {
                 twin_of(file, rest)

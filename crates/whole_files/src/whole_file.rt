@@ -2,66 +2,73 @@
 
 ghost use Rattle.std.specs.Io.{WritesAtMost};
 
-use crate::over::Over;
+use crate::over::{Over, open_for_writing};
 use crate::part::Part;
 use crate::place::Target;
-use std::fs::{OpenFile, OpenOptions};
+use std::fs::File;
 use std::io;
 use std::io::{ErrorKind, Write};
 use std::path::PathBuf;
-use std::rt::Files;
 
 /// Where the bytes of an output go until the command ends.
 #[derive(Drop)]
-pub(crate) enum Sink<F> {
+pub(crate) enum Sink {
     /// Nowhere: the output isn't wanted.
     Nowhere,
     /// To a pipe or a device, as they come.
-    Stream(F),
+    Stream(File),
     /// Into memory, since the file is written in place.
-    Over(Over<F>),
+    Over(Over),
     /// To a part beside the file.
-    Part(Part<F>),
+    Part(Part),
 }
 
 /// An output of a command: a file that is written whole or stays as it was, a pipe or a device, or
 /// nothing.
 #[derive(Drop)]
-pub struct WholeFile<'a, R: Files> {
-    pub(crate) rt: &'a R,
-    pub(crate) sink: Sink<R::File>,
+pub struct WholeFile {
+    pub(crate) rt: HostRuntime,
+    pub(crate) sink: Sink,
     /// Why a write failed, if one did.
     pub fault: Option<ErrorKind>,
 }
 
-/// Opens the file at a path for writing, as it is.
-fn open_for_writing<R: Files>(rt: &R, path: &str) -> io::Result<R::File> {
-    OpenOptions::new().write(true).open(rt, path)
+/// The sink of a file that isn't there yet.
+fn new(rt: &HostRuntime, target: PathBuf) -> io::Result<Sink> {
+    let mut part = Part::new(rt, target);
+    match part.try_out(rt) {
+        Ok(_) => Ok(Sink::Part(part)),
+        Err(error) => Err(error),
+    }
 }
 
-/// The sink of an existing file: it is opened for writing without being cut, so that one which can't
-/// be written is refused now.
-fn sink_of<R: Files + AllocGlobal>(
-    rt: &R,
-    path: &str,
-    resolved: Option<PathBuf>,
-) -> io::Result<Sink<R::File>> {
-    let file = open_for_writing(rt, path)?;
-    let part = match resolved {
-        Some(target) => Part::for_existing(rt, target, &file.metadata()?)?,
-        None => None,
-    };
-    Ok(match part {
-        Some(part) => Sink::Part(part),
-        None => Sink::Over(Over::new(rt, path, file)),
-    })
+/// The sink of an existing file: it is opened for writing, so that one which can't be written is
+/// refused now.
+fn existing(rt: &HostRuntime, path: &str, resolved: Option<PathBuf>) -> io::Result<Sink> {
+    match Over::open(rt, path) {
+        Ok(over) => match resolved {
+            Some(target) => replaced(rt, over, target),
+            None => Ok(Sink::Over(over)),
+        },
+        Err(error) => Err(error),
+    }
 }
 
-impl<'a, R: Files + AllocGlobal> WholeFile<'a, R> {
+/// The sink of an existing file that is open for writing: a part, where one can replace the target.
+fn replaced(rt: &HostRuntime, over: Over, target: PathBuf) -> io::Result<Sink> {
+    let mut part = Part::new(rt, target);
+    match part.can_replace(rt, &over.file) {
+        Ok(true) => Ok(Sink::Part(part)),
+        Ok(false) => Ok(Sink::Over(over)),
+        Err(error) => Err(error),
+    }
+}
+
+impl WholeFile {
     /// An output that isn't wanted.
-    pub fn nowhere(rt: &'a R) -> WholeFile<'a, R> {
+    pub fn nowhere(rt: &HostRuntime) -> WholeFile {
         WholeFile {
-            rt,
+            rt: *rt,
             sink: Sink::Nowhere,
             fault: None,
         }
@@ -69,24 +76,22 @@ impl<'a, R: Files + AllocGlobal> WholeFile<'a, R> {
 
     /// The output to the target of a path. Nothing is written yet. Errors: that the target can't be
     /// written, and `OutOfMemory`.
-    pub fn open(rt: &'a R, path: &str, target: Target) -> io::Result<WholeFile<'a, R>> {
+    pub fn open(rt: &HostRuntime, path: &str, target: Target) -> io::Result<WholeFile> {
         let sink = match target {
-            Target::Stream => Sink::Stream(open_for_writing(rt, path)?),
-            Target::Existing(_, resolved) => sink_of(rt, path, resolved)?,
-            Target::New(path) => Sink::Part(Part::for_new(rt, path)?),
+            Target::Stream => match open_for_writing(rt, path, false) {
+                Ok(file) => Ok(Sink::Stream(file)),
+                Err(error) => Err(error),
+            },
+            Target::Existing(_, resolved) => existing(rt, path, resolved),
+            Target::New(path) => new(rt, path),
         };
-        Ok(WholeFile {
-            rt,
-            sink,
-            fault: None,
-        })
-    }
-
-    /// Nothing is left of the output, unless it is a pipe or a device.
-    pub(crate) fn discard(self) {
-        let WholeFile { rt, sink, .. } = self;
-        if let Sink::Part(part) = sink {
-            part.discard(rt);
+        match sink {
+            Ok(sink) => Ok(WholeFile {
+                rt: *rt,
+                sink,
+                fault: None,
+            }),
+            Err(error) => Err(error),
         }
     }
 
@@ -98,23 +103,34 @@ impl<'a, R: Files + AllocGlobal> WholeFile<'a, R> {
             Sink::Nowhere => Ok(bytes.len()),
             Sink::Stream(file) => file.write(bytes),
             Sink::Over(over) => over.keep(bytes),
-            Sink::Part(part) => part.write(self.rt, bytes),
+            Sink::Part(part) => part.write(&self.rt, bytes),
+        }
+    }
+
+    /// Nothing is left of the output, unless it is a pipe or a device: a part is removed, and a file
+    /// that was written in place gets back what it had.
+    pub(crate) fn undo(&mut self) {
+        match &mut self.sink {
+            Sink::Over(over) => over.undo(),
+            Sink::Part(part) => {
+                let _ = part.remove(&self.rt);
+            }
+            _ => {}
         }
     }
 }
 
-impl<R: Files + AllocGlobal> Write for WholeFile<'_, R> {
+impl Write for WholeFile {
     fn write(&mut self, bytes: &[u8]) -> io::Result<usize> {
-        match self.write_some(bytes) {
-            Ok(count) => Ok(count),
-            Err(error) => {
+        let done = self.write_some(bytes);
+        if let Err(error) = &done {
+            match error.kind() {
                 // A write that was interrupted is tried again.
-                if error.kind() != ErrorKind::Interrupted {
-                    self.fault = Some(error.kind());
-                }
-                Err(error)
+                ErrorKind::Interrupted => {}
+                kind => self.fault = Some(kind),
             }
         }
+        done
     }
 
     fn flush(&mut self) -> io::Result<()> {
