@@ -10,7 +10,7 @@ use at_base::{Error, What};
 use cabled::Peers;
 use clap::error::ErrorKind as ParseError;
 use command_line::{Outcome, Route, Source};
-use commands::{READS, Refused, read_text};
+use commands::{AtFault, READS, Refused, read_text};
 use file_router::{Begun, Given, begin, name_in};
 use internet_file::{Plan, Router, read};
 use planned_stations::router_at;
@@ -113,7 +113,17 @@ fn plan_in<'a, S: Read + Drop>(
     };
     match read(rt.alloc(), text.as_slice()) {
         Ok(plan) => Ok(plan),
-        Err(it) => Err(refused(source, Refused::at_fault(it, text))),
+        Err(it) => {
+            let error = it.error;
+            let file = Some(AtFault { text, refused: it });
+            Err(refused(
+                source,
+                Refused {
+                    file,
+                    ..Refused::of(error)
+                },
+            ))
+        }
     }
 }
 

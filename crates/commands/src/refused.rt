@@ -87,7 +87,7 @@ impl Refused {
     }
 
     /// The refusal of a file with this text.
-    pub fn at_fault(refused: FileRefused, text: Vec<u8>) -> Refused
+    pub(crate) fn at_fault(refused: FileRefused, text: Vec<u8>) -> Refused
         ensures error { result.error ≡ refused.error }
         ensures origin { result.origin ≡ Origin.Input }
         ensures reason { result.reason ≡ None }
