@@ -1,5 +1,5 @@
 -- One router of an internet file, before its first tick, over a capture.
-use Rattle.std.specs.Prelude.{ℕ, ◌-◌, Bool, not, ◌==◌, List, [], ◌∷◌, Option, Some, None, find, map}
+use Rattle.std.specs.Prelude.{ℕ, ◌-◌, Bool, not, ◌==◌, List, [], ◌∷◌, None, map, if◌then◌else◌}
 use Rattle.std.specs.List.{list_any}
 use Rattle.cabled.specs.Steps.{Running, all_minded}
 use Rattle.cabled.specs.declared.peers.Peers.{Peers}
@@ -17,18 +17,10 @@ use Rattle.routing.specs.declared.called.Called.{Called}
 
 -- ---- Names of interfaces
 
--- the name is given to this cable
-abbrev pub is_for : ℕ → Given → Bool
-is_for cable g = g.cable == cable
-
--- what a cable is called that may have been given a name: `cable K` if it wasn't
-abbrev pub called_by : ℕ → Option Given → Called
-called_by cable None = cable_called cable
-called_by cable (Some g) = called_only g.name
-
--- what the cable of a port is called: by the first name that was given to it
+-- what the cable of a port is called: by the first name that was given to it, and `cable K` without one
 abbrev pub called_as : List Given → Port → Called
-called_as names p = called_by p.cable (find (is_for p.cable) names)
+called_as [] p = cable_called p.cable
+called_as (g ∷ gs) p = if p.cable == g.cable then called_only g.name else called_as gs p
 
 -- the name is given to the cable of a port of the router
 abbrev pub is_there : Router → Given → Bool

@@ -4,7 +4,7 @@ ghost use Rattle.std.specs.Prelude.{◌≡◌, ◌⊎◌, ◌↔◌, ◌++◌, t
 ghost use Rattle.std.specs.List.{list_all};
 ghost use Rattle.file_router.specs.Beginning as spec;
 ghost use Rattle.internet_file.specs.Sound.{is_port, is_router};
-ghost use Rattle.planned_stations.specs.Planning.{is_low_router};
+ghost use Rattle.planned_stations.specs.Planning.{is_low_port, is_low_router};
 
 use crate::calls::{calls_of, has_stray};
 use crate::given::Given;
@@ -25,12 +25,13 @@ pub struct Begun {
 
 /// The cable of a port.
 fn cable_of(cables: &[internet_file::Cable], port: &Port) -> Cable
-    requires { IsTrue (is_port cables.now port.now) }
+    requires there { IsTrue (is_port cables.now port.now) }
+    requires low { IsTrue (is_low_port port.now) }
     ensures { result ≡ spec.cable_of cables.now port.now }
 {
     let range = cables[port.cable as usize - 1].range;
     Cable {
-        index: (port.cable - 1) as u8,
+        index: port.cable.saturating_sub(1) as u8,
         start: range.start(),
         end: range.end(),
     }
@@ -42,7 +43,8 @@ fn put_cables(
     cables: &[internet_file::Cable],
     ports: &[Port],
 ) -> Result<(), Error>
-    requires { IsTrue (list_all (is_port cables.now) ports.now) }
+    requires there { IsTrue (list_all (is_port cables.now) ports.now) }
+    requires low { IsTrue (list_all is_low_port ports.now) }
     ensures put { OnOk result (put.new.items
         ≡ put.old.items ++ map (spec.cable_of cables.now) ports.now) }
     ensures refused { IsOkUnless result Error.Memory }
@@ -68,8 +70,9 @@ fn router_of(
         (λ cabled. cabled ≡ spec.router_first peers plan.now.cables router.now) }
     ensures refused { IsOkUnless result Error.Memory }
 {
-    let plans = plans_of(alloc, plan.cables(), router.port.as_slice())?;
-    let zones = zones_of(alloc, plan.cables(), router)?;
+    let cables = plan.cables();
+    let plans = plans_of(alloc, cables, router.port.as_slice())?;
+    let zones = zones_of(alloc, cables, router)?;
     CabledRouter::new(alloc, plans.as_slice(), zones, peers)
 }
 

@@ -7,7 +7,7 @@ use aarp::Chooser;
 use at_base::{Addr, Error, Range};
 use cabled::CabledRouter;
 use router::Router;
-use rtmp::{RouteTable, Row, Routes};
+use rtmp::{RouteTable, Routes, Row};
 use std::alloc::Global;
 use zip_zones::ZoneTable;
 
