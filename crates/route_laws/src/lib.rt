@@ -1,0 +1,6 @@
+//! Laws of a router that runs over a capture.
+#![tactic(auto)]
+
+mod laws;
+
+pub use laws::{one_run, unheard};
