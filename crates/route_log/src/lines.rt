@@ -38,7 +38,7 @@ pub(crate) fn put_address(
 ) -> Result<(), AllocError> {
     put_tick(lines, tick)?;
     lines.extend_from_slice(b"port ")?;
-    put_decimal(lines, (port as u32).saturating_add(1))?;
+    put_decimal(lines, port.min(255) as u32 + 1)?;
     match addr {
         Some(addr) => {
             lines.extend_from_slice(b" is ")?;
