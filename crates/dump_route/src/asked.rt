@@ -17,8 +17,8 @@ pub(crate) struct Asked {
     pub(crate) names: Vec<Given>,
 }
 
-/// What the arguments ask for; a word that isn't understood asks for nothing.
-pub(crate) fn asked<R: Env + AllocGlobal>(rt: &R) -> Result<Asked, Error> {
+/// What the words of the arguments ask for; a word that isn't understood asks for nothing.
+pub(crate) fn read_words<R: Env + AllocGlobal>(rt: &R) -> Result<Asked, Error> {
     let mut asked = Asked {
         file: String::new(rt.alloc()),
         router: 0,

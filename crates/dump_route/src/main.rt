@@ -6,7 +6,7 @@
 
 mod asked;
 
-use asked::{Asked, asked};
+use asked::{Asked, read_words};
 use at_base::{Error, What};
 use cabled::CabledRouter;
 use file_router::{begin, image_of};
@@ -81,7 +81,7 @@ fn run<I: Read, W: Write + Drop>(
 
 /// Runs what the arguments ask for.
 fn run_asked(rt: &HostRuntime) -> Result<String, Error> {
-    let asked = asked(rt)?;
+    let asked = read_words(rt)?;
     let plan = plan_in(rt, asked.file.as_str())?;
     let output = Output::new(rt.alloc(), writer(rt));
     run(rt.alloc(), &plan, &asked, &mut rt.reader(), output)
