@@ -3,11 +3,12 @@
 use crate::explain::Evidence;
 use crate::outputs::{Outputs, Wanted};
 use crate::performed::Performed;
-use at_base::Error;
+use at_base::{Error, What};
 use cabled::CabledRouter;
 use command_line::{Outcome, Route};
 use file_router::image_of;
-use internet_file::{Plan, Router};
+use internet_file::Plan;
+use planned_stations::router_at;
 use route_log::Known;
 use routing::Watch;
 use rtmp::Routes;
@@ -21,7 +22,8 @@ use text::Output;
 pub struct Keeper<'a> {
     rt: &'a HostRuntime,
     plan: &'a Plan,
-    planned: &'a Router,
+    /// The index of the router, from 0.
+    index: usize,
     image: Option<&'a str>,
     every: u32,
     known: Option<Known>,
@@ -32,14 +34,14 @@ impl<'a> Keeper<'a> {
     pub fn new(
         rt: &'a HostRuntime,
         plan: &'a Plan,
-        planned: &'a Router,
+        index: usize,
         route: Route<'a>,
         every: u32,
     ) -> Keeper<'a> {
         Keeper {
             rt,
             plan,
-            planned,
+            index,
             image: route.image,
             every,
             known: if route.log {
@@ -52,10 +54,13 @@ impl<'a> Keeper<'a> {
 
     /// Writes the image of the router to an output.
     fn put_image(&self, router: &CabledRouter<Routes>, outputs: &mut Outputs) -> Result<(), Error> {
-        if self.planned.port.len() != router.ports().len() {
-            return Ok(());
+        let Some(planned) = router_at(self.plan, self.index) else {
+            return Err(Error::NoSuch(What::Router));
+        };
+        if planned.port.len() != router.router().router().ports_now().len() {
+            return Err(Error::NoSuch(What::Router));
         }
-        let image = image_of(self.rt.alloc(), self.plan, self.planned, router)?;
+        let image = image_of(self.rt.alloc(), self.plan, planned, router)?;
         let bytes = write(self.rt.alloc(), &image)?;
         match outputs.image.writer.write_all(bytes.as_slice()) {
             Ok(()) => Ok(()),

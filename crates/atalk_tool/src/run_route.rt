@@ -12,7 +12,7 @@ use clap::error::ErrorKind as ParseError;
 use command_line::{Outcome, Route, Source};
 use commands::{AtFault, READS, Refused, read_text};
 use file_router::{Begun, Given, begin, name_in};
-use internet_file::{Plan, Router, read};
+use internet_file::{Plan, read};
 use planned_stations::router_at;
 use routing::Stream;
 use std::fs::File;
@@ -141,8 +141,6 @@ fn plan_of<'a>(rt: &HostRuntime, source: Source<'a>) -> Result<Plan, Performed<'
 /// Runs a router of a plan over standard input, to its end, and writes its image.
 fn run_over<'a>(
     rt: &HostRuntime,
-    plan: &Plan,
-    planned: &Router,
     begun: Begun,
     keeper: Keeper<'_>,
     wanted: Wanted<'a>,
@@ -180,15 +178,8 @@ fn run_planned<'a>(
         Peers::Real,
     ) {
         Ok(begun) => {
-            let keeper = Keeper::new(rt, plan, planned, route, wants.every);
-            run_over(
-                rt,
-                plan,
-                planned,
-                begun,
-                keeper,
-                Wanted::of(route.image, None),
-            )
+            let keeper = Keeper::new(rt, plan, wants.router, route, wants.every);
+            run_over(rt, begun, keeper, Wanted::of(route.image, None))
         }
         Err(error) => failed(error),
     }

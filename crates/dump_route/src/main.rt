@@ -10,7 +10,7 @@ use asked::{Asked, read_words};
 use at_base::{Error, What};
 use cabled::CabledRouter;
 use file_router::{begin, image_of};
-use internet_file::{Plan, Router, read};
+use internet_file::{Plan, read};
 use planned_stations::router_at;
 use routing::{Stream, Watch};
 use rtmp::Routes;
@@ -49,11 +49,14 @@ fn plan_in<R: Files + AllocGlobal>(rt: &R, path: &str) -> Result<Plan, Error> {
 fn image_line(
     alloc: Global,
     plan: &Plan,
-    planned: &Router,
+    index: usize,
     router: &CabledRouter<Routes>,
 ) -> Result<String, Error> {
+    let Some(planned) = router_at(plan, index) else {
+        return Err(Error::NoSuch(What::Router));
+    };
     let mut line = Vec::new(alloc);
-    if planned.port.len() == router.ports().len() {
+    if planned.port.len() == router.router().router().ports_now().len() {
         let image = image_of(alloc, plan, planned, router)?;
         let bytes = write(alloc, &image)?;
         put_hex(&mut line, bytes.as_slice())?;
@@ -76,7 +79,7 @@ fn run<I: Read, W: Write + Drop>(
     let mut stream = Stream::new(begun.routing, output, Nobody);
     stream.begin(begun.cables.as_slice())?;
     stream.run(alloc, input)?;
-    image_line(alloc, plan, planned, stream.routing.router())
+    image_line(alloc, plan, asked.router, stream.routing.router())
 }
 
 /// Runs what the arguments ask for.
