@@ -151,13 +151,17 @@ class Neighbours:
         return chance.choice([ours, chance.choice(self.told), chance.randint(1, 65279), chance.randrange(65536)])
 
     def row(self):
-        """A row of routing data: a range, or seldom one network alone."""
+        """A row of routing data: a range, or seldom one network alone. One that begins in a range of the router's is that range, for
+        the twin asks for no zones of another one."""
         chance, first = self.chance, self.some_network()
+        last = chance.choice([first, min(first + chance.randrange(9), 65535), chance.choice(chance.choice(self.known.cables))])
+        for port in self.ports:
+            if self.known.cables[port.cable][0] <= first <= self.known.cables[port.cable][1]:
+                first, last = self.known.cables[port.cable]
         self.told.append(first)
         distance = chance.choice([0, 0, 1, 2, 3, 13, 14, 15, 30, 31])
-        if chance.random() < 0.2:
+        if first == last and chance.random() < 0.5:
             return struct.pack(">HB", first, distance)
-        last = chance.choice([first, min(first + chance.randrange(9), 65535), chance.choice(chance.choice(self.known.cables))])
         return struct.pack(">HBHB", first, 128 + distance, last, chance.choice([0x82] * 9 + [0]))
 
     def routes(self, p, hardware, address):
