@@ -88,7 +88,11 @@ fn every_in<'a>(rt: &HostRuntime, word: Option<&str>) -> Result<u32, Performed<'
 }
 
 /// The numbers and names in the words of a command line.
-fn wants<'a>(rt: &HostRuntime, route: Route<'_>, cables: &[&str]) -> Result<Wants, Performed<'a>> {
+fn words_in<'a>(
+    rt: &HostRuntime,
+    route: Route<'_>,
+    cables: &[&str],
+) -> Result<Wants, Performed<'a>> {
     let Some(router) = number(u32::MAX, route.router.as_bytes()) else {
         let word = route.router;
         let _ = eprintln!(rt; "error: --router {word} is no number of a router");
@@ -187,7 +191,7 @@ fn run_planned<'a>(
 
 /// Runs a router of an internet file over standard input, with the words for the names of its cables.
 pub fn run_route<'a>(rt: &HostRuntime, route: Route<'a>, cables: &[&'a str]) -> Performed<'a> {
-    let wants = match wants(rt, route, cables) {
+    let wants = match words_in(rt, route, cables) {
         Ok(wants) => wants,
         Err(performed) => return performed,
     };
