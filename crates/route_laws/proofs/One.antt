@@ -1,10 +1,11 @@
 -- Two runs over the same bytes.
-use Rattle.std.proofs.Common.{◌≡◌, ◌⊎◌, inl, inr, ℕ, ◌+◌, ◌≤◌, ◌∙◌, List, [], ◌∷◌, ◌++◌, Option, ap, arith, refl, subst, sym}
+use Rattle.std.proofs.Common.{◌≡◌, ◌⊎◌, inl, inr, ℕ, ◌≤◌, ◌∙◌, List, [], ◌∷◌, ◌++◌, ap, arith, refl, subst, sym}
 use Rattle.std.proofs.lemmas.List.{append-nil}
 use Rattle.cabled.specs.Steps.{Running}
 use Rattle.capture_feed.specs.Feeds.{Leads}
 use Rattle.capture_feed.specs.Stages.{Standing, coming, pending, told}
 use Rattle.pcapng.specs.Sections.{Told}
+use Rattle.route_laws.specs.Carrying.{after_all, all_bytes}
 use Rattle.routing.specs.Events.{Event, events_of, step}
 use Rattle.routing.specs.Run.{Came, HasHeard, HaveHeard, Routed, one_more}
 use Rattle.routing.specs.Streams.{answer_bytes, event_bytes, time_of}
@@ -35,15 +36,6 @@ leads_one at last end bytes kept left (t ∷ ts) (u ∷ us) (m, rest, is, l) (n,
 
 -- ---- Where nothing was dropped, what came is one function of the events
 
--- the bytes for some events, and the router after them
-abbrev pub events_bytes : ℕ → Running → List Event → List ℕ
-events_bytes time r [] = []
-events_bytes time r (e ∷ es) = event_bytes time r e ++ events_bytes time (step r e).1 es
-
-abbrev pub events_after : Running → List Event → Running
-events_after r [] = r
-events_after r (e ∷ es) = events_after (step r e).1 es
-
 -- a count never falls
 rises : (time : ℕ) (r after : Running) (es : List Event) (d d1 : ℕ) (bytes : List ℕ) → Came time r es d bytes after d1 → d ≡ d1 ⊎ 1 ≤ d1
 rises time r after [] d d1 bytes (none, same, kept) = inl (sym kept)
@@ -57,8 +49,8 @@ rises time r after (e ∷ es) d d1 bytes (inr came) = by (rises time r after es 
 -- what came, where the count is 0 after it
 pub record IsWhole (time : ℕ) (r after : Running) (es : List Event) (d : ℕ) (bytes : List ℕ) : Type 0 where
   pub none : d ≡ 0
-  pub bytes_are : bytes ≡ events_bytes time r es
-  pub after_is : after ≡ events_after r es
+  pub bytes_are : bytes ≡ all_bytes time r es
+  pub after_is : after ≡ after_all r es
 
 pub whole : (time : ℕ) (r after : Running) (es : List Event) (d d1 : ℕ) (bytes : List ℕ) → Came time r es d bytes after d1 → d1 ≡ 0
     → IsWhole time r after es d bytes

@@ -1,11 +1,15 @@
 //! The laws. Each law is the contract of a function that does nothing.
 
-ghost use Rattle.std.specs.Prelude.{◌≡◌, [], List, None, Option, ℕ};
+ghost use Rattle.std.specs.Prelude.{◌≡◌, ◌≤◌, ◌+◌, ◌⊎◌, [], Bool, List, None, Option, ℕ};
 ghost use Rattle.cabled.specs.Steps.{Running, hearing_at};
 ghost use Rattle.capture_feed.specs.Stages.{Standing, coming, pending};
 ghost use Rattle.ethertalk.specs.Frames.{Framed};
-ghost use Rattle.routing.specs.Events.{Heard, step};
-ghost use Rattle.routing.specs.Run.{Routed, SoFar};
+ghost use Rattle.pcapng.specs.Sections.{Told};
+ghost use Rattle.route_laws.specs.Carrying.{HasKept, after_all, all_brought, all_made, all_put};
+ghost use Rattle.route_laws.specs.Carrying.{brought_by, passed_for, waiting_in};
+ghost use Rattle.routing.specs.Events.{Event, Heard, step};
+ghost use Rattle.routing.specs.Run.{HaveHeard, Routed, SoFar};
+ghost use Rattle.station.specs.Lawful.{count};
 
 /// Two runs that began alike, over the same bytes, write the same and end alike, however the bytes were
 /// cut, if neither dropped an event and each was at the end of what it had read: what a router writes
@@ -23,4 +27,29 @@ pub fn one_run()
 pub fn unheard()
     ensures { (r : Running) (k : ℕ) (f : Framed) → hearing_at r.peers r.ports k f ≡ None
         → step r (Heard k f) ≡ ([], r) }
+{}
+
+/// For an event a router passes on nothing, or one datagram: the one that the event brings, with one
+/// hop more, and nothing else of it changed.
+pub fn passed_once()
+    ensures { (r : Running) (e : Event)
+        → (passed_for r e ≡ []) ⊎ (passed_for r e ≡ brought_by e) }
+{}
+
+/// A router multiplies nothing. For some events, one after the other, it puts datagrams that pass a
+/// test, such as to have certain bytes, at most as often as one waited at its ports at the beginning,
+/// as it made one itself, and as the events brought one with a hop fewer, less those that wait at the
+/// end.
+pub fn carried()
+    ensures { (r : Running) (es : List Event) (test : List ℕ → Bool)
+        → count test (all_put r es) + count test (waiting_in (after_all r es).ports)
+        ≤ count test (waiting_in r.ports) + count test (all_made r es)
+        + count test (all_brought es) }
+{}
+
+/// What a router wrote for the blocks of a capture is what it puts for the events that they bring, one
+/// after the other, without those that were dropped; and so the law on events speaks of captures.
+pub fn kept()
+    ensures { (m after : Routed) (ts : List Told) (bytes : List ℕ)
+        → HaveHeard m ts bytes after → HasKept m after ts bytes }
 {}

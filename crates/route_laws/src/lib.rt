@@ -3,4 +3,4 @@
 
 mod laws;
 
-pub use laws::{one_run, unheard};
+pub use laws::{carried, kept, one_run, passed_once, unheard};

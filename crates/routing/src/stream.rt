@@ -18,6 +18,10 @@ use text::Output;
 /// The bytes of one read.
 const PIECE: usize = 8_192;
 
+/// Room for all that ever waits in the output: less than 65,536 bytes, and one block more, which has
+/// at most 1,548.
+const ROOM: usize = 68_000;
+
 /// A router over a capture, where it writes, and who watches it.
 #[derive(Drop)]
 pub struct Stream<W, S> {
@@ -83,7 +87,8 @@ impl<W: Write, S: Watch> Stream<W, S> {
     }
 
     /// Writes what stands before the first packet, and flushes: the section header, and these cables,
-    /// one for each port. Errors: `Memory`; `WriteFault`.
+    /// one for each port. All the room that the output ever needs is made here. Errors: `Memory`;
+    /// `WriteFault`.
     pub fn begin(&mut self, cables: &[Cable]) -> Result<(), Error>
         ensures written { OnOk result (Appends (W.contents self.old.output.writer)
             (W.contents self.new.output.writer)
@@ -93,14 +98,16 @@ impl<W: Write, S: Watch> Stream<W, S> {
         ensures open { self.new.failed ≡ self.old.failed }
         ensures refused { IfErr result (λ e. (e ≡ Error.Memory) ⊎ (e ≡ Error.WriteFault)) }
     {
+        self.output.text.reserve(ROOM)?;
         print_head(&mut self.output, cables)?;
         self.output.flush()
     }
 
-    /// Takes in a piece of the capture: what is due for its whole blocks is written and flushed.
+    /// Takes in a piece of the capture: what is due for its whole blocks is written and flushed, and
+    /// nothing waits in the output then.
     ///
     /// Errors: `BadCapture` of a block that is refused, after what is due; `WriteFault`; `Memory`.
-    fn take(&mut self, feed: &mut Feed, piece: &[u8]) -> Result<(), Error>
+    pub fn take(&mut self, feed: &mut Feed, piece: &[u8]) -> Result<(), Error>
         ensures took { OnOk result ((m : Routed) (w : Option (List ℕ)) (all : List ℕ)
             → Stands m w all self.old.failed self.old.output.text.items self.old.routing
             (W.contents self.old.output.writer) feed.old

@@ -1,4 +1,4 @@
-use Rattle.std.proofs.Common.{List, ℕ, subst, sym}
+use Rattle.std.proofs.Common.{List, subst, sym}
 use Rattle.capture_feed.specs.Stages.{start}
 use Rattle.pcapng.specs.Sections.{Told}
 use Rattle.pcapng.specs.declared.form.Forms.TheVariants.{Pcapng}
