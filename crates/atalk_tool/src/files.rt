@@ -116,13 +116,6 @@ fn identity(target: &Option<Target>) -> Identity<'_> {
     }
 }
 
-/// A usage error, whose text was printed.
-fn usage_error<'a>() -> Performed<'a>
-    ensures { result.outcome ≡ Outcome.NoJob ParseError.ArgumentConflict true }
-{
-    Performed::without_source(Outcome::NoJob(ParseError::ArgumentConflict, true))
-}
-
 /// A run that ended for want of memory to look at its files.
 fn out_of_memory<'a>() -> Performed<'a>
     ensures { result.outcome ≡ Outcome.Answered (Err Error.Memory) }
@@ -137,7 +130,7 @@ fn refuse_dash<'a>(rt: &impl Eprint, option: &str) -> Performed<'a>
     let _ = eprintln!(rt;
         "error: {option} - names no file: ./- does, and /dev/stdout is standard output"
     );
-    usage_error()
+    Performed::misused(ParseError::ArgumentConflict)
 }
 
 /// Refuses two files that are one.
@@ -145,7 +138,7 @@ fn refuse_shared<'a>(rt: &impl Eprint, first: &str, second: &str) -> Performed<'
     ensures { result.outcome ≡ Outcome.NoJob ParseError.ArgumentConflict true }
 {
     let _ = eprintln!(rt; "error: {first} and {second} are the same file");
-    usage_error()
+    Performed::misused(ParseError::ArgumentConflict)
 }
 
 /// Refuses two outputs, or an output and an input, that are one file.
@@ -212,11 +205,11 @@ fn check_route<'a>(rt: &impl Eprint, job: &Job<'_>) -> Result<(), Performed<'a>>
         let _ = eprintln!(rt;
             "error: FILE - names no file: ./- does, and standard input carries the cables' frames"
         );
-        return Err(usage_error());
+        return Err(Performed::misused(ParseError::ArgumentConflict));
     }
     if route.every.is_some() && route.image.is_none() {
         let _ = eprintln!(rt; "error: --every asks for --image");
-        return Err(usage_error());
+        return Err(Performed::misused(ParseError::ArgumentConflict));
     }
     Ok(())
 }

@@ -74,13 +74,11 @@ impl Outputs {
         ensures verdict { IfOk answer (λ yes. (result ≡ spec.kept yes)
             ⊎ ((unwritten : Unwritten) × (result ≡ spec.missed unwritten))) }
     {
-        let Outputs { image, capture } = self;
-        let Output { writer: image, .. } = image;
-        let Output {
-            writer: capture,
-            ..
-        } = capture;
-        Placing::new().end(answer, image, capture)
+        let Outputs {
+            mut image,
+            mut capture,
+        } = self;
+        Placing::new().end(answer, &mut image.writer, &mut capture.writer)
     }
 }
 

@@ -1,8 +1,9 @@
 //! The outcome of a run of the program.
 
-ghost use Rattle.std.specs.Prelude.{◌≡◌, Some};
+ghost use Rattle.std.specs.Prelude.{◌≡◌, Some, true};
 
 use crate::explain::Evidence;
+use clap::error::ErrorKind as ParseError;
 use command_line::{Outcome, Source};
 use std::io;
 
@@ -22,6 +23,13 @@ impl<'a> Performed<'a> {
             outcome,
             evidence: Evidence::of(None),
         }
+    }
+
+    /// A usage error, whose text was printed.
+    pub fn misused(kind: ParseError) -> Performed<'a>
+        ensures { result.outcome ≡ Outcome.NoJob kind true }
+    {
+        Performed::without_source(Outcome::NoJob(kind, true))
     }
 
     /// A run that couldn't open a source.

@@ -1,7 +1,5 @@
 //! A router of an internet file, on real cables.
 
-ghost use Rattle.std.specs.Prelude.{◌≡◌, true};
-
 use crate::explain::Evidence;
 use crate::keeper::Keeper;
 use crate::outputs::{Outputs, Wanted};
@@ -28,11 +26,6 @@ struct Wants {
     names: Vec<Given>,
     /// After how many ticks its image is written each time; 0 for at the end alone.
     every: u32,
-}
-
-/// A usage error, whose text was printed.
-fn usage_error<'a>() -> Performed<'a> {
-    Performed::without_source(Outcome::NoJob(ParseError::InvalidValue, true))
 }
 
 /// A run that ended with an error of a file's.
@@ -65,7 +58,7 @@ fn names_in<'a>(rt: &HostRuntime, cables: &[&str]) -> Result<Vec<Given>, Perform
                 let _ = eprintln!(rt;
                     "error: --cable {word} is no number of a cable and name, as 3=eth0"
                 );
-                return Err(usage_error());
+                return Err(Performed::misused(ParseError::InvalidValue));
             }
             Err(error) => return Err(failed(error)),
         }
@@ -82,7 +75,7 @@ fn every_in<'a>(rt: &HostRuntime, word: Option<&str>) -> Result<u32, Performed<'
         Some(every) if every > 0 => Ok(every),
         _ => {
             let _ = eprintln!(rt; "error: --every {word} is no number of ticks");
-            Err(usage_error())
+            Err(Performed::misused(ParseError::InvalidValue))
         }
     }
 }
@@ -96,7 +89,7 @@ fn words_in<'a>(
     let Some(router) = number(u32::MAX, route.router.as_bytes()) else {
         let word = route.router;
         let _ = eprintln!(rt; "error: --router {word} is no number of a router");
-        return Err(usage_error());
+        return Err(Performed::misused(ParseError::InvalidValue));
     };
     Ok(Wants {
         router: (router as usize).wrapping_sub(1),

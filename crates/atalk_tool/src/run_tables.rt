@@ -148,7 +148,7 @@ fn refuse_network<'a>(rt: &impl Eprint, word: &str) -> Performed<'a>
     ensures { result.outcome ≡ Outcome.NoJob ParseError.InvalidValue true }
 {
     let _ = eprintln!(rt; "error: --to {word:?} names no network: a number from 0 to 65535 does");
-    Performed::without_source(Outcome::NoJob(ParseError::InvalidValue, true))
+    Performed::misused(ParseError::InvalidValue)
 }
 
 /// Prints the drawing of an image, with the ways to the network that a word names, if there is one.

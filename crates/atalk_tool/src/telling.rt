@@ -70,7 +70,7 @@ fn refuse_word<'a>(rt: &impl Eprint, name: &str, word: &str) -> Performed<'a>
     ensures { result.outcome ≡ Outcome.NoJob ParseError.InvalidValue true }
 {
     let _ = eprintln!(rt; "error: {name} is auto, always or never, and not {word:?}");
-    Performed::without_source(Outcome::NoJob(ParseError::InvalidValue, true))
+    Performed::misused(ParseError::InvalidValue)
 }
 
 /// What a word with this name says. Errors: a usage error.

@@ -103,31 +103,15 @@ impl Placing {
     pub fn end(
         &mut self,
         answer: Result<bool, Error>,
-        mut image: WholeFile,
-        mut capture: WholeFile,
+        image: &mut WholeFile,
+        capture: &mut WholeFile,
     ) -> Ended
         // After an error no rename was asked for, and the end is that error; where a write failed,
         // with the output that it was of.
         ensures none { IfErr answer (λ _. self.new.asked ≡ self.old.asked) }
         ensures error { IfErr answer (λ e. result
-            ≡ spec.refused e (spec.lost image.fault capture.fault)) }
-        // After a verdict the end is that verdict, or names the output that couldn't be written.
-        ensures verdict { IfOk answer (λ yes. (result ≡ spec.kept yes)
-            ⊎ ((unwritten : Unwritten) × (result ≡ spec.missed unwritten))) }
-    {
-        self.end_both(answer, &mut image, &mut capture)
-    }
-
-    /// The same, of outputs that the caller lets go of.
-    fn end_both(
-        &mut self,
-        answer: Result<bool, Error>,
-        image: &mut WholeFile,
-        capture: &mut WholeFile,
-    ) -> Ended
-        ensures none { IfErr answer (λ _. self.new.asked ≡ self.old.asked) }
-        ensures error { IfErr answer (λ e. result
             ≡ spec.refused e (spec.lost image.old.fault capture.old.fault)) }
+        // After a verdict the end is that verdict, or names the output that couldn't be written.
         ensures verdict { IfOk answer (λ yes. (result ≡ spec.kept yes)
             ⊎ ((unwritten : Unwritten) × (result ≡ spec.missed unwritten))) }
     {
