@@ -186,7 +186,7 @@ fn answer<T: RouteTable>(
 
 /// Whether the datagram is a request for routing data: it is of type 5 and for socket 1, and its
 /// checksum is right.
-fn asks(view: &View<'_>) -> bool
+pub(crate) fn asks(view: &View<'_>) -> bool
     ensures { result ≡ spec.asks view.now }
 {
     is_to(view, kind::RTMP_REQUEST, socket::RTMP) && checks(view)

@@ -19,7 +19,7 @@ use ethertalk::{Frame, link_for};
 use live_router::LiveRouter;
 use port::Port;
 use rtmp::RouteTable;
-use station::{Heard, Link, PortPlan};
+use station::{Heard, Link, Outputs, PortPlan};
 use std::alloc::Global;
 use std::marker::Model;
 use zip_zones::ZoneTable;
@@ -32,17 +32,20 @@ pub struct CabledRouter<T: RouteTable> {
     router: LiveRouter<T>,
     ports: Vec<Port>,
     peers: Peers,
+    /// A queue that is empty between calls, and keeps its room for the next one.
+    outputs: Outputs,
 }
 
 impl<T: RouteTable> Model for CabledRouter<T> {
-    ghost use Rattle.std.specs.Prelude.{◌≡◌, length};
+    ghost use Rattle.std.specs.Prelude.{◌≡◌, [], length};
     ghost use Rattle.cabled.specs.Steps.{Running};
 
     ghost Value = { Running };
 
     ghost view = { λ r. record { living = r.router; ports = r.ports.items; peers = r.peers } };
 
-    ghost invariant = { λ r. length r.ports.items ≡ length r.router.router.ports };
+    ghost invariant = { λ r. (length r.ports.items ≡ length r.router.router.ports)
+        × (r.outputs.items ≡ []) };
 }
 
 /// Whether the frame is the port's own, which a router on a real cable doesn't hear.
@@ -90,8 +93,10 @@ fn hear_on<T: RouteTable>(
     port: u8,
     frame: &Frame<'_>,
     puts: &mut Puts,
+    outputs: &mut Outputs,
 ) -> Result<(), Error>
-    requires { length ports.old ≡ length router.old.router.ports }
+    requires ports { length ports.old ≡ length router.old.router.ports }
+    requires empty { outputs.old.items ≡ [] }
     ensures put { OnOk result (puts.new.items ≡ puts.old.items ++ (spec.put_by peers router.old ports.old
         (spec.hearing_at peers ports.old port (framed frame.now))).0) }
     ensures ports { OnOk result (ports.new ≡ (spec.put_by peers router.old ports.old
@@ -104,9 +109,10 @@ fn hear_on<T: RouteTable>(
     ensures puts_stay { OnErr result (puts.new.items ≡ puts.old.items) }
     ensures ports_stay { OnErr result (ports.new ≡ ports.old) }
     ensures router_stays { OnErr result (router.new ≡ router.old) }
+    ensures none { outputs.new.items ≡ [] }
 {
     match heard_at(ports, peers, port, frame) {
-        Some(heard) => hear_frame(router, ports, peers, &heard, puts),
+        Some(heard) => hear_frame(router, ports, peers, &heard, puts, outputs),
         None => Ok(()),
     }
 }
@@ -168,10 +174,12 @@ impl<T: RouteTable> CabledRouter<T> {
         let mut ports = Vec::with_capacity(alloc, plans.len())?;
         put_ports(&mut ports, plans)?;
         mind(&mut router, peers);
+        let outputs = Outputs::new(alloc)?;
         Ok(CabledRouter {
             router,
             ports,
             peers,
+            outputs,
         })
     }
 
@@ -202,7 +210,8 @@ impl<T: RouteTable> CabledRouter<T> {
         ensures router_stays { OnErr result (self.new ≡ self.old) }
     {
         let ports = self.ports.as_mut_slice();
-        hear_on(&mut self.router, ports, self.peers, port, frame, puts)?;
+        let outputs = &mut self.outputs;
+        hear_on(&mut self.router, ports, self.peers, port, frame, puts, outputs)?;
         Ok(())
     }
 

@@ -1,6 +1,6 @@
 //! What a router with its ports makes of a frame that a port hears.
 
-ghost use Rattle.std.specs.Prelude.{◌≡◌, ◌<◌, ◌≤◌, ◌+◌, ◌++◌, false, length, true, Some, IfOk, IfSome, IsOk, IsOkUnless};
+ghost use Rattle.std.specs.Prelude.{◌≡◌, ◌<◌, ◌≤◌, ◌+◌, ◌++◌, [], false, length, true, Some, IfOk, IfSome, IsOk, IsOkUnless};
 ghost use Rattle.std.specs.Prelude.{OnErr, OnOk};
 ghost use Rattle.aarp.specs.Choosing.{wants};
 ghost use Rattle.aarp.specs.declared.packet.Packet.{Packet as PacketValue};
@@ -14,7 +14,7 @@ ghost use Rattle.station.specs.Resolution.{packet_at};
 ghost use Rattle.station.specs.Values.{datagram_at};
 ghost use Rattle.station.specs.declared.heard.Kind.TheVariants.{Aarp, Ddp};
 
-use crate::asked::answers;
+use crate::asked::{answers, asks as asks_routes};
 use crate::dressing::dress_all;
 use crate::peers::Peers;
 use crate::puts::Puts;
@@ -71,13 +71,16 @@ fn range_heard<T: RouteTable>(
         ≡ said_by (ended_datagram router.now (hearing heard.now) (Some view.now)) }
     ensures inside { IfSome result (λ s. s.0 < length router.now.ports) }
 {
-    let course = router.course(heard.port, heard.link, view.hops(), view.target());
-    match course.ending {
-        Some(ending) if checks(view) => match range_in(view) {
-            Some(range) => Some((ending.port, range)),
-            None => None,
-        },
-        _ => None,
+    // Most datagrams are no routing data: for them no course is looked for.
+    match range_in(view) {
+        Some(range) => {
+            let course = router.course(heard.port, heard.link, view.hops(), view.target());
+            match course.ending {
+                Some(ending) if checks(view) => Some((ending.port, range)),
+                _ => None,
+            }
+        }
+        None => None,
     }
 }
 
@@ -111,6 +114,10 @@ fn answers_to<T: RouteTable>(
     match peers {
         Peers::Played => Outputs::new(router.allocator()),
         Peers::Real => {
+            // Most datagrams are no request: for them no course is looked for.
+            if !asks_routes(view) {
+                return Outputs::new(router.allocator());
+            }
             let made = answers(router, heard, view)?;
             queue_of(router.allocator(), made)
         }
@@ -127,6 +134,32 @@ fn hear_range<T: RouteTable>(router: &mut LiveRouter<T>, said: Option<(u8, Range
     if let Some((port, range)) = said {
         router.hear_range(port, range);
     }
+}
+
+/// Fills a queue that is empty with the outputs of the live router for a frame that a port hears.
+/// Error: `Memory`; the router doesn't change then, and the queue stays empty.
+fn fill<T: RouteTable>(
+    router: &mut LiveRouter<T>,
+    heard: &Heard<'_>,
+    nonextended: Nonextended,
+    outputs: &mut Outputs,
+) -> Result<(), Error>
+    requires port { heard.now.port < length router.old.router.ports }
+    requires empty { outputs.old.items ≡ [] }
+    ensures outputs { OnOk result (outputs.new.items
+        ≡ (heard_live_as nonextended router.old (hearing heard.now)).0) }
+    ensures after { OnOk result
+        (router.new ≡ (heard_live_as nonextended router.old (hearing heard.now)).1) }
+    ensures few { OnOk result (length outputs.new.items ≤ 257) }
+    ensures ports_stay { length router.new.router.ports ≡ length router.old.router.ports }
+    ensures unasked { heard.now.kind ≡ Aarp → (p : PacketValue)
+        → packet_at heard.now.bytes.now ≡ Some p → wants p.function ≡ false → IsOk result }
+    ensures refused { IsOkUnless result Error.Memory }
+    ensures router_stays { OnErr result (router.new ≡ router.old) }
+    ensures none { OnErr result (outputs.new.items ≡ []) }
+{
+    router.hear(heard, nonextended, outputs)?;
+    Ok(())
 }
 
 /// The outputs of the live router for a frame that a port hears. Error: `Memory`; the router doesn't
@@ -149,24 +182,26 @@ fn outputs_of<T: RouteTable>(
     ensures router_stays { OnErr result (router.new ≡ router.old) }
 {
     let mut outputs = Outputs::new(router.router().allocator())?;
-    router.hear(heard, nonextended, &mut outputs)?;
+    fill(router, heard, nonextended, &mut outputs)?;
     Ok(outputs)
 }
 
 /// Puts what the outputs of the router ask for, and then its answers. The caller ensures that there
 /// is room for one packet for each.
-fn dress_both(puts: &mut Puts, ports: &mut [Port], outputs: Outputs, answers: Outputs)
-    requires { length outputs.items + length answers.items ≤ puts.old.spare }
+fn dress_both(puts: &mut Puts, ports: &mut [Port], outputs: &mut Outputs, answers: Outputs)
+    requires { length outputs.old.items + length answers.items ≤ puts.old.spare }
     ensures put { puts.new.items
-        ≡ puts.old.items ++ (all_dressed (outputs.items ++ answers.items) ports.old).0 }
-    ensures after { ports.new ≡ (all_dressed (outputs.items ++ answers.items) ports.old).1 }
+        ≡ puts.old.items ++ (all_dressed (outputs.old.items ++ answers.items) ports.old).0 }
+    ensures after { ports.new ≡ (all_dressed (outputs.old.items ++ answers.items) ports.old).1 }
+    ensures none { outputs.new.items ≡ [] }
 {
-    let (mut outputs, mut answers) = (outputs, answers);
-    dress_all(puts, ports, &mut outputs);
+    let mut answers = answers;
+    dress_all(puts, ports, outputs);
     dress_all(puts, ports, &mut answers);
 }
 
-/// Handles a datagram that a port hears. Error: `Memory`; nothing changes then.
+/// Handles a datagram that a port hears; the router's outputs go by a queue that is empty before and
+/// after it. Error: `Memory`; nothing changes then.
 fn hear_datagram<T: RouteTable>(
     router: &mut LiveRouter<T>,
     ports: &mut [Port],
@@ -174,10 +209,12 @@ fn hear_datagram<T: RouteTable>(
     heard: &Heard<'_>,
     view: &View<'_>,
     puts: &mut Puts,
+    outputs: &mut Outputs,
 ) -> Result<(), Error>
     requires port { heard.now.port < length router.old.router.ports }
     requires kind { heard.now.kind ≡ Ddp }
     requires view { datagram_at heard.now.bytes.now ≡ Some view.now }
+    requires empty { outputs.old.items ≡ [] }
     ensures put { OnOk result (puts.new.items ≡ puts.old.items
         ++ (put_for peers router.old ports.old (hearing heard.now)).0) }
     ensures ports { OnOk result (ports.new
@@ -189,12 +226,13 @@ fn hear_datagram<T: RouteTable>(
     ensures puts_stay { OnErr result (puts.new.items ≡ puts.old.items) }
     ensures ports_stay { OnErr result (ports.new ≡ ports.old) }
     ensures router_stays { OnErr result (router.new ≡ router.old) }
+    ensures none { outputs.new.items ≡ [] }
 {
     let said = range_heard(router.router(), heard, view);
     let answers = answers_to(peers, router.router(), heard, view)?;
     // Room is made first: once the router has heard the frame, nothing is refused.
     puts.room(MAX_PUT)?;
-    let outputs = outputs_of(router, heard, hears_nonextended(peers))?;
+    fill(router, heard, hears_nonextended(peers), outputs)?;
     hear_range(router, said);
     dress_both(puts, ports, outputs, answers);
     Ok(())
@@ -277,15 +315,18 @@ fn hear_answer<T: RouteTable>(
     }
 }
 
-/// Handles a frame that a port hears. Error: `Memory`; nothing changes then.
+/// Handles a frame that a port hears; a datagram's outputs go by a queue that is empty before and
+/// after it. Error: `Memory`; nothing changes then.
 pub(crate) fn hear_frame<T: RouteTable>(
     router: &mut LiveRouter<T>,
     ports: &mut [Port],
     peers: Peers,
     heard: &Heard<'_>,
     puts: &mut Puts,
+    outputs: &mut Outputs,
 ) -> Result<(), Error>
-    requires { heard.now.port < length router.old.router.ports }
+    requires port { heard.now.port < length router.old.router.ports }
+    requires empty { outputs.old.items ≡ [] }
     ensures put { OnOk result (puts.new.items ≡ puts.old.items
         ++ (put_for peers router.old ports.old (hearing heard.now)).0) }
     ensures ports { OnOk result (ports.new
@@ -297,10 +338,11 @@ pub(crate) fn hear_frame<T: RouteTable>(
     ensures puts_stay { OnErr result (puts.new.items ≡ puts.old.items) }
     ensures ports_stay { OnErr result (ports.new ≡ ports.old) }
     ensures router_stays { OnErr result (router.new ≡ router.old) }
+    ensures none { outputs.new.items ≡ [] }
 {
     match heard.kind {
         Kind::Ddp => match read_datagram(heard.bytes) {
-            Some(view) => hear_datagram(router, ports, peers, heard, &view, puts),
+            Some(view) => hear_datagram(router, ports, peers, heard, &view, puts, outputs),
             None => Ok(()),
         },
         Kind::Aarp => match read_packet(heard.bytes) {

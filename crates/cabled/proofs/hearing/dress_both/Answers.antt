@@ -6,7 +6,7 @@ use Rattle.cabled.proofs.hearing.dress_both.Goals as goal
 
 pub returns-clause-put : goal.returns-clause-put
 returns-clause-put c =
-    let outputs = c.args.outputs.items in
+    let outputs = c.args.outputs.now.items in
     let answers = c.args.answers.items in
     let ports = c.args.ports.now in
     rw (c.dress_all-2.ensures.put, c.dress_all.ensures.put, c.dress_all.ensures.after, both_put outputs answers ports)
@@ -14,4 +14,4 @@ returns-clause-put c =
 
 pub returns-clause-after : goal.returns-clause-after
 returns-clause-after c =
-    rw (c.dress_all-2.ensures.after, c.dress_all.ensures.after, both_after c.args.outputs.items c.args.answers.items c.args.ports.now) refl
+    rw (c.dress_all-2.ensures.after, c.dress_all.ensures.after, both_after c.args.outputs.now.items c.args.answers.items c.args.ports.now) refl
