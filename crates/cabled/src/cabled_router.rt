@@ -211,7 +211,15 @@ impl<T: RouteTable> CabledRouter<T> {
     {
         let ports = self.ports.as_mut_slice();
         let outputs = &mut self.outputs;
-        hear_on(&mut self.router, ports, self.peers, port, frame, puts, outputs)?;
+        hear_on(
+            &mut self.router,
+            ports,
+            self.peers,
+            port,
+            frame,
+            puts,
+            outputs,
+        )?;
         Ok(())
     }
 
