@@ -2,7 +2,7 @@
 
 ghost use Rattle.std.specs.Prelude.{IsOkUnless};
 
-use crate::lines::{put_address, put_drops, put_gone, put_row, put_zones};
+use crate::lines::{put_address, put_drops, put_elsewhere, put_gone, put_row, put_zones};
 use aarp::Chooser;
 use at_base::{Addr, Error, Range};
 use cabled::CabledRouter;
@@ -11,11 +11,13 @@ use rtmp::{RouteTable, Routes, Row};
 use std::alloc::Global;
 use zip_zones::ZoneTable;
 
-/// What was known of a router after a tick: the settled addresses of its ports, its rows, the ranges
-/// whose zones it knows, and how many events it had dropped.
+/// What was known of a router after a tick: the settled addresses of its ports, which of them heard
+/// that their cable has another range, its rows, the ranges whose zones it knows, and how many events
+/// it had dropped.
 #[derive(Drop)]
 pub struct Known {
     addrs: Vec<Option<Addr>>,
+    elsewhere: Vec<bool>,
     rows: Vec<Row>,
     complete: Vec<Range>,
     dropped: u64,
@@ -28,6 +30,15 @@ fn addrs_of(alloc: Global, ports: &[Chooser]) -> Result<Vec<Option<Addr>>, Error
         addrs.push(port.settled())?;
     }
     Ok(addrs)
+}
+
+/// Which ports heard that their cable has another range, and so don't start.
+fn elsewhere_of(alloc: Global, ports: &[Chooser]) -> Result<Vec<bool>, Error> {
+    let mut elsewhere = Vec::new(alloc);
+    for port in ports {
+        elsewhere.push(port.is_elsewhere())?;
+    }
+    Ok(elsewhere)
 }
 
 /// The rows of a table.
@@ -83,6 +94,7 @@ impl Known {
     pub fn new(alloc: Global) -> Known {
         Known {
             addrs: Vec::new(alloc),
+            elsewhere: Vec::new(alloc),
             rows: Vec::new(alloc),
             complete: Vec::new(alloc),
             dropped: 0,
@@ -93,6 +105,7 @@ impl Known {
     fn of(alloc: Global, router: &Router<Routes>, dropped: u64) -> Result<Known, Error> {
         Ok(Known {
             addrs: addrs_of(alloc, router.ports_now())?,
+            elsewhere: elsewhere_of(alloc, router.ports_now())?,
             rows: rows_of(alloc, router.routes())?,
             complete: complete_in(alloc, router.zones())?,
             dropped,
@@ -109,6 +122,16 @@ impl Known {
             };
             if addr != before {
                 put_address(lines, tick, port, addr)?;
+            }
+        }
+        Ok(())
+    }
+
+    /// Appends a line for each port that heard that its cable has another range.
+    fn tell_elsewhere(&self, now: &Known, tick: u64, lines: &mut Vec<u8>) -> Result<(), Error> {
+        for port in 0..now.elsewhere.len() {
+            if now.elsewhere[port] && self.elsewhere.get(port) != Some(&true) {
+                put_elsewhere(lines, tick, port)?;
             }
         }
         Ok(())
@@ -150,6 +173,7 @@ impl Known {
     ) -> Result<(), Error> {
         let now = Known::of(*lines.allocator(), router.router().router(), dropped)?;
         self.tell_addrs(&now, tick, lines)?;
+        self.tell_elsewhere(&now, tick, lines)?;
         self.tell_rows(&now, tick, lines)?;
         self.tell_zones(&now, tick, lines)?;
         if now.dropped != self.dropped {

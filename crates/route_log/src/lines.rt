@@ -49,6 +49,14 @@ pub(crate) fn put_address(
     lines.extend_from_slice(b"\n")
 }
 
+/// Appends that a port heard that its cable has another range than its own.
+pub(crate) fn put_elsewhere(lines: &mut Vec<u8>, tick: u64, port: usize) -> Result<(), AllocError> {
+    put_tick(lines, tick)?;
+    lines.extend_from_slice(b"port ")?;
+    put_decimal(lines, port.min(255) as u32 + 1)?;
+    lines.extend_from_slice(b" does not start: its cable has another range\n")
+}
+
 /// Appends how a route is now.
 pub(crate) fn put_row(lines: &mut Vec<u8>, tick: u64, row: &Row) -> Result<(), AllocError> {
     put_tick(lines, tick)?;
