@@ -31,6 +31,7 @@ use Rattle.rtmp.specs.declared.row.Row.{Row}
 use Rattle.rtmp.specs.declared.tuple.Nonextended.{Nonextended}
 use Rattle.rtmp.specs.declared.tuple.Nonextended.TheVariants.{AsRanges, Skipped}
 use Rattle.station.specs.Hearing.{Hearing}
+use Rattle.station.specs.Lawful.{Queue}
 use Rattle.station.specs.Resolution.{packet_at}
 use Rattle.station.specs.Ports.{planned}
 use Rattle.station.specs.Ways.{is_to}
@@ -93,6 +94,11 @@ living_after peers l x = record (heard_live_as (hears_nonextended peers) l x).1 
 abbrev pub answers_to : Peers → Holding → Hearing → List Output
 answers_to Played h x = []
 answers_to Real h x = routes_asked h x
+
+-- the outputs in a queue, if there is one
+abbrev pub items_of : Option Queue → List Output
+items_of None = []
+items_of (Some q) = q.items
 
 -- the outputs of the router for a frame
 abbrev pub outputs_for : Peers → Living → Hearing → List Output

@@ -7,7 +7,7 @@ ghost use Rattle.aarp.specs.declared.packet.Packet.{Packet as PacketValue};
 ghost use Rattle.cabled.specs.Putting.{all_dressed};
 ghost use Rattle.live_router.specs.Living.{heard_live_as};
 ghost use Rattle.cabled.specs.Steps as spec;
-ghost use Rattle.cabled.specs.Steps.{living_after, put_for, said_by};
+ghost use Rattle.cabled.specs.Steps.{items_of, living_after, put_for, said_by};
 ghost use Rattle.router.specs.Ending.{ended_datagram};
 ghost use Rattle.station.specs.Hearing.{hearing};
 ghost use Rattle.station.specs.Resolution.{packet_at};
@@ -95,32 +95,30 @@ fn queue_of(alloc: Global, made: Vec<Output>) -> Result<Outputs, Error>
     Ok(outputs)
 }
 
-/// The answers to a request for routing data, which a router of a play doesn't give. Error:
+/// The answers to a request for routing data, if it is one; a router of a play gives none. Error:
 /// `Memory`.
 fn answers_to<T: RouteTable>(
     peers: Peers,
     router: &Router<T>,
     heard: &Heard<'_>,
     view: &View<'_>,
-) -> Result<Outputs, Error>
+) -> Result<Option<Outputs>, Error>
     requires port { heard.now.port < length router.now.ports }
     requires kind { heard.now.kind ≡ Ddp }
     requires view { datagram_at heard.now.bytes.now ≡ Some view.now }
-    ensures ok { IfOk result (λ outputs.
-        outputs.items ≡ spec.answers_to peers router.now (hearing heard.now)) }
-    ensures few { IfOk result (λ outputs. length outputs.items ≤ 3) }
+    ensures ok { IfOk result (λ queue.
+        items_of queue ≡ spec.answers_to peers router.now (hearing heard.now)) }
+    ensures few { IfOk result (λ queue. length (items_of queue) ≤ 3) }
     ensures refused { IsOkUnless result Error.Memory }
 {
+    // Most datagrams are no request: for them no course is looked for.
     match peers {
-        Peers::Played => Outputs::new(router.allocator()),
-        Peers::Real => {
-            // Most datagrams are no request: for them no course is looked for.
-            if !asks_routes(view) {
-                return Outputs::new(router.allocator());
-            }
+        Peers::Real if asks_routes(view) => {
             let made = answers(router, heard, view)?;
-            queue_of(router.allocator(), made)
+            let queue = queue_of(router.allocator(), made)?;
+            Ok(Some(queue))
         }
+        _ => Ok(None),
     }
 }
 
@@ -136,15 +134,18 @@ fn hear_range<T: RouteTable>(router: &mut LiveRouter<T>, said: Option<(u8, Range
     }
 }
 
-/// Fills a queue that is empty with the outputs of the live router for a frame that a port hears.
+/// Fills a queue that is empty with the outputs of the live router for a datagram that a port hears.
 /// Error: `Memory`; the router doesn't change then, and the queue stays empty.
 fn fill<T: RouteTable>(
     router: &mut LiveRouter<T>,
     heard: &Heard<'_>,
+    view: &View<'_>,
     nonextended: Nonextended,
     outputs: &mut Outputs,
 ) -> Result<(), Error>
     requires port { heard.now.port < length router.old.router.ports }
+    requires kind { heard.now.kind ≡ Ddp }
+    requires view { datagram_at heard.now.bytes.now ≡ Some view.now }
     requires empty { outputs.old.items ≡ [] }
     ensures outputs { OnOk result (outputs.new.items
         ≡ (heard_live_as nonextended router.old (hearing heard.now)).0) }
@@ -152,13 +153,11 @@ fn fill<T: RouteTable>(
         (router.new ≡ (heard_live_as nonextended router.old (hearing heard.now)).1) }
     ensures few { OnOk result (length outputs.new.items ≤ 257) }
     ensures ports_stay { length router.new.router.ports ≡ length router.old.router.ports }
-    ensures unasked { heard.now.kind ≡ Aarp → (p : PacketValue)
-        → packet_at heard.now.bytes.now ≡ Some p → wants p.function ≡ false → IsOk result }
     ensures refused { IsOkUnless result Error.Memory }
     ensures router_stays { OnErr result (router.new ≡ router.old) }
     ensures none { OnErr result (outputs.new.items ≡ []) }
 {
-    router.hear(heard, nonextended, outputs)?;
+    router.hear_datagram(heard, view, nonextended, outputs)?;
     Ok(())
 }
 
@@ -182,22 +181,23 @@ fn outputs_of<T: RouteTable>(
     ensures router_stays { OnErr result (router.new ≡ router.old) }
 {
     let mut outputs = Outputs::new(router.router().allocator())?;
-    fill(router, heard, nonextended, &mut outputs)?;
+    router.hear(heard, nonextended, &mut outputs)?;
     Ok(outputs)
 }
 
-/// Puts what the outputs of the router ask for, and then its answers. The caller ensures that there
-/// is room for one packet for each.
-fn dress_both(puts: &mut Puts, ports: &mut [Port], outputs: &mut Outputs, answers: Outputs)
-    requires { length outputs.old.items + length answers.items ≤ puts.old.spare }
+/// Puts what the outputs of the router ask for, and then its answers, if it has any. The caller
+/// ensures that there is room for one packet for each.
+fn dress_both(puts: &mut Puts, ports: &mut [Port], outputs: &mut Outputs, answers: Option<Outputs>)
+    requires { length outputs.old.items + length (items_of answers) ≤ puts.old.spare }
     ensures put { puts.new.items
-        ≡ puts.old.items ++ (all_dressed (outputs.old.items ++ answers.items) ports.old).0 }
-    ensures after { ports.new ≡ (all_dressed (outputs.old.items ++ answers.items) ports.old).1 }
+        ≡ puts.old.items ++ (all_dressed (outputs.old.items ++ items_of answers) ports.old).0 }
+    ensures after { ports.new ≡ (all_dressed (outputs.old.items ++ items_of answers) ports.old).1 }
     ensures none { outputs.new.items ≡ [] }
 {
-    let mut answers = answers;
     dress_all(puts, ports, outputs);
-    dress_all(puts, ports, &mut answers);
+    if let Some(mut answers) = answers {
+        dress_all(puts, ports, &mut answers);
+    }
 }
 
 /// Handles a datagram that a port hears; the router's outputs go by a queue that is empty before and
@@ -232,7 +232,7 @@ fn hear_datagram<T: RouteTable>(
     let answers = answers_to(peers, router.router(), heard, view)?;
     // Room is made first: once the router has heard the frame, nothing is refused.
     puts.room(MAX_PUT)?;
-    fill(router, heard, hears_nonextended(peers), outputs)?;
+    fill(router, heard, view, hears_nonextended(peers), outputs)?;
     hear_range(router, said);
     dress_both(puts, ports, outputs, answers);
     Ok(())

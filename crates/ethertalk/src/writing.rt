@@ -10,6 +10,26 @@ use crate::frame::{AARP, DDP, Frame, LLC};
 use station::Kind;
 use std::alloc::AllocError;
 
+/// The SNAP protocol of a kind of packets.
+fn protocol(kind: Kind) -> [u8; 5]
+    ensures { result ≡ protocol_of kind }
+{
+    match kind {
+        Kind::Ddp => DDP,
+        Kind::Aarp => AARP,
+    }
+}
+
+/// A length, the LLC header and the SNAP protocol.
+fn headers_of(len: u16, kind: Kind) -> [u8; 10]
+    ensures { result ≡ to_be_bytes w16 len ++ (llc ++ protocol_of kind) }
+{
+    let [high, low] = len.to_be_bytes();
+    let [first, second, third] = LLC;
+    let [a, b, c, d, e] = protocol(kind);
+    [high, low, first, second, third, a, b, c, d, e]
+}
+
 /// Appends the target and the source.
 fn put_addresses(text: &mut Vec<u8>, frame: &Frame) -> Result<(), AllocError>
     ensures { OnOk result (text.new.items
@@ -17,24 +37,6 @@ fn put_addresses(text: &mut Vec<u8>, frame: &Frame) -> Result<(), AllocError>
 {
     text.extend_from_slice(&frame.to.0)?;
     text.extend_from_slice(&frame.from.0)
-}
-
-/// Appends a length.
-fn put_length(text: &mut Vec<u8>, len: u16) -> Result<(), AllocError>
-    ensures { OnOk result (text.new.items ≡ text.old.items ++ to_be_bytes w16 len) }
-{
-    text.extend_from_slice(&len.to_be_bytes())
-}
-
-/// Appends the LLC header and the SNAP protocol.
-fn put_headers(text: &mut Vec<u8>, kind: Kind) -> Result<(), AllocError>
-    ensures { OnOk result (text.new.items ≡ text.old.items ++ (llc ++ protocol_of kind)) }
-{
-    text.extend_from_slice(&LLC)?;
-    match kind {
-        Kind::Ddp => text.extend_from_slice(&DDP),
-        Kind::Aarp => text.extend_from_slice(&AARP),
-    }
 }
 
 /// Appends a frame, without padding. Error: no memory; then a part of it may have been appended.
@@ -45,8 +47,8 @@ pub fn put_frame(text: &mut Vec<u8>, frame: &Frame) -> Result<(), AllocError>
     ensures { OnOk result (text.new.items ≡ text.old.items ++ bytes_of spec.frame (framed frame.now)) }
 {
     put_addresses(text, frame)?;
-    put_length(text, 8 + frame.packet.len() as u16)?;
-    put_headers(text, frame.kind)?;
+    let len = 8 + frame.packet.len() as u16;
+    text.extend_from_slice(&headers_of(len, frame.kind))?;
     text.extend_from_slice(frame.packet)?;
     Ok(())
 }

@@ -11,15 +11,17 @@ ghost use Rattle.rtmp.specs.Routes.{poisoned};
 ghost use Rattle.station.specs.Hearing.{hearing};
 ghost use Rattle.station.specs.Lawful.{PutsOut};
 ghost use Rattle.station.specs.Resolution.{packet_at};
-ghost use Rattle.station.specs.declared.heard.Kind.TheVariants.{Aarp};
+ghost use Rattle.station.specs.declared.heard.Kind.TheVariants.{Aarp, Ddp};
 ghost use Rattle.station.specs.Ports.{is_planned, planned};
+ghost use Rattle.station.specs.Values.{datagram_at};
 ghost use Rattle.at_base.specs.Limits.{max_ports};
 
 use crate::passing::{pass, phase_after};
-use crate::received::hear;
+use crate::received::{hear, hear_datagram};
 use aarp::Care;
 use at_base::limits::MAX_PORTS;
 use at_base::{Addr, Error, Range};
+use ddp::View;
 use router::Router;
 use rtmp::{Nonextended, RouteTable};
 use station::{Heard, Outputs, PortPlan, Station};
@@ -164,6 +166,32 @@ impl<T: RouteTable> LiveRouter<T> {
     {
         self.settled = false;
         hear(&mut self.router, heard, nonextended, outputs)
+    }
+
+    /// Receives a frame as `hear` does, for callers that have read the datagram in it. Error:
+    /// `Memory`; neither the router nor the outputs change then.
+    ///
+    /// Inside AppleTalk, the chapters on DDP and RTMP.
+    pub fn hear_datagram(
+        &mut self,
+        heard: &Heard<'_>,
+        view: &View<'_>,
+        nonextended: Nonextended,
+        outputs: &mut Outputs,
+    ) -> Result<(), Error>
+        requires port { heard.now.port < length self.old.router.ports }
+        requires kind { heard.now.kind ≡ Ddp }
+        requires view { datagram_at heard.now.bytes.now ≡ Some view.now }
+        ensures ok { OnOk result
+            (PutsOut (length self.old.router.ports) outputs.old.items outputs.new.items (λ added.
+            (added, self.new) ≡ heard_live_as nonextended self.old (hearing heard.now))) }
+        ensures ports_stay { length self.new.router.ports ≡ length self.old.router.ports }
+        ensures refused { IsOkUnless result Error.Memory }
+        ensures router_stays { OnErr result (self.new ≡ self.old) }
+        ensures outputs_stay { OnErr result (outputs.new.items ≡ outputs.old.items) }
+    {
+        self.settled = false;
+        hear_datagram(&mut self.router, heard, view, nonextended, outputs)
     }
 }
 

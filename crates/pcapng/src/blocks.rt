@@ -83,25 +83,23 @@ fn put_time(text: &mut Vec<u8>, time: u64) -> Result<(), AllocError>
     put_four(text, (time % 0x1_0000_0000) as u32)
 }
 
-/// Appends what the block of a packet has in front of the packet: its type and length, the
-/// interface, the time, and the packet's length twice, as captured and as it was.
-fn put_packet_front(
-    text: &mut Vec<u8>,
-    packet: &Packet,
-    total: u32,
-    len: u32,
-) -> Result<(), AllocError>
-    ensures { OnOk result (text.new.items ≡ text.old.items
-        ++ (four_bytes 6 ++ four_bytes total ++ four_bytes packet.now.interface
-        ++ (four_bytes (packet.now.time / 2 ^ 32) ++ four_bytes (packet.now.time % 2 ^ 32))
-        ++ four_bytes len ++ four_bytes len)) }
+/// What the block of a packet has in front of the packet: its type and length, the interface, the
+/// time, and the packet's length twice, as captured and as it was.
+fn packet_front(total: u32, interface: u8, time: u64, len: u32) -> [u8; 28]
+    ensures { result ≡ four_bytes 6 ++ four_bytes total ++ four_bytes interface
+        ++ (four_bytes (time / 2 ^ 32) ++ four_bytes (time % 2 ^ 32))
+        ++ four_bytes len ++ four_bytes len }
 {
-    put_four(text, 6)?;
-    put_four(text, total)?;
-    put_four(text, u32::from(packet.interface))?;
-    put_time(text, packet.time)?;
-    put_four(text, len)?;
-    put_four(text, len)
+    let [k0, k1, k2, k3] = 6u32.to_be_bytes();
+    let [t0, t1, t2, t3] = total.to_be_bytes();
+    let [i0, i1, i2, i3] = u32::from(interface).to_be_bytes();
+    let [h0, h1, h2, h3] = ((time / 0x1_0000_0000) as u32).to_be_bytes();
+    let [w0, w1, w2, w3] = ((time % 0x1_0000_0000) as u32).to_be_bytes();
+    let [l0, l1, l2, l3] = len.to_be_bytes();
+    [
+        k0, k1, k2, k3, t0, t1, t2, t3, i0, i1, i2, i3, h0, h1, h2, h3, w0, w1, w2, w3, l0, l1, l2,
+        l3, l0, l1, l2, l3,
+    ]
 }
 
 /// Appends the options of a packet, if it was lost.
@@ -142,7 +140,8 @@ pub(crate) fn put_packet(
     recall_fits(packet);
     let len = HEADERS_LEN + bytes.len() as u32;
     let total = packet_total(len, packet.lost);
-    put_packet_front(text, packet, total, len)?;
+    let front = packet_front(total, packet.interface, packet.time, len);
+    put_bytes(text, &front)?;
     put_packet_frame(text, packet, bytes)?;
     put_filling(text, len)?;
     put_options(text, packet.lost)?;

@@ -153,6 +153,57 @@ impl<T: RouteTable> Router<T> {
         Ok(())
     }
 
+    /// Takes the step of a datagram whose course doesn't end at the router: nothing else comes of it.
+    /// Error: `Memory`; the outputs don't change then.
+    ///
+    /// Inside AppleTalk, the chapter on DDP.
+    pub fn carry(
+        &self,
+        step: Option<Step>,
+        view: &View<'_>,
+        outputs: &mut Outputs,
+    ) -> Result<(), Error>
+        requires near { IfSome step (IsNear view.now.hops) }
+        requires by { IfSome step (IsBy (length self.now.ports)) }
+        ensures ok { OnOk result
+            (PutsOut (length self.now.ports) outputs.old.items outputs.new.items (λ added.
+            added ≡ spec.fate step view.now)) }
+        ensures silent { step ≡ None → IsOk result }
+        ensures refused { IsOkUnless result Error.Memory }
+        ensures outputs_stay { OnErr result (outputs.new.items ≡ outputs.old.items) }
+    {
+        let fate = fate(*self.ports.allocator(), step, view)?;
+        if let Some(output) = fate {
+            outputs.room(1)?;
+            outputs.add(output);
+        }
+        Ok(())
+    }
+
+    /// Receives a datagram by the reaction to it. Error: `Memory`; neither the
+    /// router nor the outputs change then.
+    fn hear_by_reaction(
+        &mut self,
+        heard: &Heard<'_>,
+        view: &View<'_>,
+        outputs: &mut Outputs,
+    ) -> Result<(), Error>
+        requires { heard.now.port < length self.old.ports }
+        ensures ok { OnOk result
+            (PutsOut (length self.old.ports) outputs.old.items outputs.new.items (λ added.
+            (added, self.new) ≡ heard_datagram self.old (hearing heard.now) (Some view.now))) }
+        ensures ports_stay { self.new.ports ≡ self.old.ports }
+        ensures silent { may_ask view.now ≡ false
+            → (heard_datagram self.old (hearing heard.now) (Some view.now)).0 ≡ []
+            → IsOk result }
+        ensures refused { IsOkUnless result Error.Memory }
+        ensures station_stays { OnErr result (self.new ≡ self.old) }
+        ensures outputs_stay { OnErr result (outputs.new.items ≡ outputs.old.items) }
+    {
+        let reaction = self.react(heard, view)?;
+        self.follow(reaction, outputs)
+    }
+
     /// Receives a datagram on one of the ports. Error: `Memory`; neither the router nor the outputs
     /// change then.
     pub(crate) fn hear_datagram(
@@ -173,7 +224,11 @@ impl<T: RouteTable> Router<T> {
         ensures station_stays { OnErr result (self.new ≡ self.old) }
         ensures outputs_stay { OnErr result (outputs.new.items ≡ outputs.old.items) }
     {
-        let reaction = self.react(heard, view)?;
-        self.follow(reaction, outputs)
+        let course = self.course(heard.port, heard.link, view.hops(), view.target());
+        // Most datagrams only pass: for them no reaction is made.
+        if course.ending.is_none() {
+            return self.carry(course.step, view, outputs);
+        }
+        self.hear_by_reaction(heard, view, outputs)
     }
 }
