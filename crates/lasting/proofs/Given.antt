@@ -37,7 +37,7 @@ use Rattle.station.specs.declared.output.Output.TheVariants as output
 
 -- ---- The seat of a port
 
-first_passes : {X : Type 0} (p : X → Bool) (xs : List X) (x : X) → slice_get xs (position_or_len p xs) ≡ Some x → p x ≡ true
+pub first_passes : {X : Type 0} (p : X → Bool) (xs : List X) (x : X) → slice_get xs (position_or_len p xs) ≡ Some x → p x ≡ true
 first_passes p [] x e = cc
 first_passes p (y ∷ xs) x e =
     (elim (p y) as (λ b. p y ≡ b → slice_get (y ∷ xs) (cond (not b) (1 + position_or_len p xs) 0) ≡ Some x → p x ≡ true) [
@@ -229,17 +229,17 @@ module _ (IsToldOf : Frame → Type 0) (Lossless : Type 0) where
 
   -- ---- Requests
 
-  asked_one : (seat : Option Seat) (own : Option (Option Addr)) (a : Addr) (old new : Cabling) → IsAsked seat own a old new → IsFineStep old new
+  pub asked_one : (seat : Option Seat) (own : Option (Option Addr)) (a : Addr) (old new : Cabling) → IsAsked seat own a old new → IsFineStep old new
   asked_one None own a old new h = step_same old new h
   asked_one (Some s) own a old new (bytes, spelled, put) = put_fine s all_hw bytes old new put
 
-  asked_all : (seat : Option Seat) (own : Option (Option Addr)) (addrs : List Addr) (old new : Cabling) → AreAsked seat own addrs old new
+  pub asked_all : (seat : Option Seat) (own : Option (Option Addr)) (addrs : List Addr) (old new : Cabling) → AreAsked seat own addrs old new
       → IsFineStep old new
   asked_all seat own [] old new h = step_same old new h
   asked_all seat own (a ∷ more) old new (mid, one, rest) =
       step_then old mid new (asked_one seat own a old mid one) (asked_all seat own more mid new rest)
 
-  shed_all : (ss : List ℕ) (old new : Cabling) → AreShed ss old new → IsFineStep old new
+  pub shed_all : (ss : List ℕ) (old new : Cabling) → AreShed ss old new → IsFineStep old new
   shed_all [] old new h = step_of old new [] h tt refl
   shed_all (s ∷ ss) old new (mid, one, rest) =
       step_then old mid new (step_of old mid _ one (gone_fine IsToldOf (transcript old) (Some s)) (let_go_calm (transcript old) (Some s))) (shed_all ss mid new rest)

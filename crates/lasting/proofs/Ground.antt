@@ -173,7 +173,7 @@ module _ (plan : Planned) (phase : ℕ) (stations : List (Member Living LivingNo
         }
 
     -- a port of a planned router, and its cable
-    port_cable : (k : ℕ) (r : PlannedRouter) (l : Living) → At plan.routers k r → At stations k (RouterMember l) → IsStandingRouter plan.cables phase r l
+    pub port_cable : (k : ℕ) (r : PlannedRouter) (l : Living) → At plan.routers k r → At stations k (RouterMember l) → IsStandingRouter plan.cables phase r l
         → (n : ℕ) (c : Choice) → At l.router.ports n c
         → (p : PlannedPort) × At r.port n p × (cable : Cable) × At image.cables (p.cable - 1) cable
         × (c.range ≡ record { start = cable.start; end = cable.end })

@@ -58,7 +58,7 @@ each_of : {X : Type 0} (P : X → Type 0) (xs : List X) → ((k : ℕ) (x : X) �
 each_of P [] f = tt
 each_of P (x ∷ xs) f = (f zero x refl, each_of P xs (λ k y e. f (suc k) y e))
 
-each_kept : {X : Type 0} (P : X → Type 0) (t : X → Bool) (xs : List X) → Each P xs → Each P (filter t xs)
+pub each_kept : {X : Type 0} (P : X → Type 0) (t : X → Bool) (xs : List X) → Each P xs → Each P (filter t xs)
 each_kept P t [] h = tt
 each_kept P t (x ∷ xs) h = by (each_kept P t xs h.1) (t x)
   where

@@ -161,7 +161,7 @@ pub let_go_next : (t : List Entry) (o : Option ℕ) → AreNext t (let_go t o)
 let_go_next t o = gone_next t t o (omega arith)
 
 -- losses leave the next number as it is
-gone_same : (t u : List Entry) (o : Option ℕ) → next_stamp (u ++ let_go t o) ≡ next_stamp u
+pub gone_same : (t u : List Entry) (o : Option ℕ) → next_stamp (u ++ let_go t o) ≡ next_stamp u
 gone_same t u None = ap next_stamp (append-nil u)
 gone_same t u (Some stamp) = by (is_open t stamp)
   where

@@ -74,11 +74,11 @@ after_ranges ports p (Some sent) = by (slice_get ports p) refl
 
 -- ---- A router
 
-taught_ranges : (h after : Holding) (o : Option (ℕ × Datagram)) → (taught h after o).ports ≡ after.ports
+pub taught_ranges : (h after : Holding) (o : Option (ℕ × Datagram)) → (taught h after o).ports ≡ after.ports
 taught_ranges h after None = refl
 taught_ranges h after (Some e) = refl
 
-datagram_ports : (h : Holding) (x : Hearing) (o : Option Datagram) → (heard_datagram h x o).1.ports ≡ h.ports
+pub datagram_ports : (h : Holding) (x : Hearing) (o : Option Datagram) → (heard_datagram h x o).1.ports ≡ h.ports
 datagram_ports h x None = refl
 datagram_ports h x (Some d) = refl
 

@@ -105,7 +105,7 @@ short q range me m rows p sent = by (m == 0 || nat_lt (m * 96) (length (rows_sen
         let laid = ap length (bytes_laid (data_datagram me p)) in
         omega (arith, laid, payload)
 
-port_back : (cables : List ℕ) (ports : List Choice) (maps : List Mappings) (n : ℕ) (p : Port) → At (frozen_ports V1 cables ports maps) n p
+pub port_back : (cables : List ℕ) (ports : List Choice) (maps : List Mappings) (n : ℕ) (p : Port) → At (frozen_ports V1 cables ports maps) n p
     → (c : Choice) × At ports n c
 port_back [] ports maps n p e = cc
 port_back (x ∷ cables) [] maps n p e = cc

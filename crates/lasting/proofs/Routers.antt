@@ -47,7 +47,7 @@ one_settled (x ∷ xs) zero c a e =
 one_settled (x ∷ xs) (suc k) c a e = one_settled xs k c (and_parts x.is_settled (list_all (λ (z : Choice). z.is_settled) xs) a).1 e
 
 -- settled ports hear AARP packets and stay
-ports_stay : (ports : List Choice) (p : ℕ) (o : Option Packet) → AreSettled ports → ports_after ports p o ≡ ports
+pub ports_stay : (ports : List Choice) (p : ℕ) (o : Option Packet) → AreSettled ports → ports_after ports p o ≡ ports
 ports_stay ports p None a = refl
 ports_stay ports p (Some sent) a = by (slice_get ports p) refl
   where

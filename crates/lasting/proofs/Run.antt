@@ -38,7 +38,7 @@ one_more : (w v : Worldly) (us : List Worldly) → AreNextTicks w us → IsNextT
 one_more w v [] ticks t = ((t, tt), refl)
 one_more w v (u ∷ us) (first, ticks) t = let h = one_more u v us ticks t in ((first, h.0), h.1)
 
-run_on : (old new : Worldly) → HasRun old → IsNextTick old new → HasRun new
+pub run_on : (old new : Worldly) → HasRun old → IsNextTick old new → HasRun new
 run_on old new run t =
     let h = one_more run.first new run.ticks run.passed (subst (λ w. IsNextTick w new) run.last t) in
     record { first = run.first; ticks = run.ticks ++ new ∷ []; begun = run.begun; passed = h.0; last = h.1 }

@@ -64,7 +64,7 @@ has_left xs ys x h = (h.0, at xs h.0 h.1)
     at (y ∷ xs) zero e = e
     at (y ∷ xs) (suc k) e = at xs k e
 
-has_right : {X : Type 0} (xs ys : List X) (x : X) → Has ys x → Has (xs ++ ys) x
+pub has_right : {X : Type 0} (xs ys : List X) (x : X) → Has ys x → Has (xs ++ ys) x
 has_right [] ys x h = h
 has_right (y ∷ xs) ys x h = let w = has_right xs ys x h in (suc w.0, w.1)
 
@@ -87,7 +87,7 @@ put_pairs seats (x ∷ t) zero f z e h on =
 put_pairs seats (x ∷ t) (suc k) f z e h on = has_right (pairs_of seats x) (pairs seats t) (record { frame = f; seat = z }) (put_pairs seats t k f z e h on)
 
 -- a frame whose number nothing has ended is pending
-new_pending : (seats : List Seat) (t : List Entry) (n k : ℕ) (f : Frame) (z : Seat) → Each (EndsBelow n) t → n ≤ f.stamp → At t k (Put f) → Has seats z
+pub new_pending : (seats : List Seat) (t : List Entry) (n k : ℕ) (f : Frame) (z : Seat) → Each (EndsBelow n) t → n ≤ f.stamp → At t k (Put f) → Has seats z
     → is_heard f z ≡ true → Has (pending seats t) (record { frame = f; seat = z })
 new_pending seats t n k f z below le e h on =
     has_kept (λ p. not (was_ended t p)) (pairs seats t) (record { frame = f; seat = z }) (put_pairs seats t k f z e h on)
@@ -144,7 +144,7 @@ sent_waits seats s bytes old new k l below g z h on =
     by false n = ((tt, (tt, tt)), (suc zero, refl))
 
 -- a station with a seat for a port has a first one
-found_below : (p : Seat → Bool) (xs : List Seat) (k : ℕ) (x : Seat) → At xs k x → p x ≡ true → (s : Seat) × At xs (position_or_len p xs) s × (position_or_len p xs < length xs)
+pub found_below : (p : Seat → Bool) (xs : List Seat) (k : ℕ) (x : Seat) → At xs k x → p x ≡ true → (s : Seat) × At xs (position_or_len p xs) s × (position_or_len p xs < length xs)
 found_below p [] k x e on = cc
 found_below p (y ∷ xs) k x e on = by (λ j f. found_below p xs j x f on)
   where

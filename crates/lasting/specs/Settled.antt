@@ -71,6 +71,16 @@ abbrev pub AreCleanTicks : Worldly → List Worldly → Type 0
 AreCleanTicks w [] = Unit {0}
 AreCleanTicks w (v ∷ vs) = IsCleanTick w v × AreCleanTicks v vs
 
+-- The world passed a tick, which left no frame under way.
+pub record IsEmptyTick (old new : Worldly) : Type 0 where
+  pub next : IsNextTick old new
+  pub pending : pending_on new.wires.cabling ≡ []
+
+-- each of these worlds is the one before it after such a tick
+abbrev pub AreEmptyTicks : Worldly → List Worldly → Type 0
+AreEmptyTicks w [] = Unit {0}
+AreEmptyTicks w (v ∷ vs) = IsEmptyTick w v × AreEmptyTicks v vs
+
 -- no cable loses frames in a later tick in which rows age, which is each hundredth one
 abbrev pub LosesNothingWhereRowsAge : Planned → ℕ → Type 0
 LosesNothingWhereRowsAge plan now = (tick cable : ℕ) → now < tick → tick % 100 ≡ 0 → loses_at plan tick cable ≡ false

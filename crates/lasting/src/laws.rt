@@ -12,7 +12,8 @@ ghost use Rattle.lasting.specs.Resting.{AreOther, AreOtherAfter, AreTicks};
 ghost use Rattle.lasting.specs.Resting.{IsNumbered, LosesNothingAfter};
 ghost use Rattle.lasting.specs.Resting.{HasSameDistances, IsAtRest, StaysSettled, last_of};
 ghost use Rattle.lasting.specs.Begun.{AreNextTicks, HasRun, IsNextTick};
-ghost use Rattle.lasting.specs.Settled.{AreCleanTicks, IsSettledWorld, LosesNothingWhereRowsAge};
+ghost use Rattle.lasting.specs.Settled.{AreCleanTicks, AreEmptyTicks, IsSettledWorld};
+ghost use Rattle.lasting.specs.Settled.{LosesNothingWhereRowsAge};
 ghost use Rattle.lasting.specs.Standing.{AreSettled, AskNoMore, HaveAddresses};
 ghost use Rattle.live_router.specs.Living.{LiveHears, Living};
 ghost use Rattle.live_router.specs.Ticking.{LiveTicks};
@@ -113,6 +114,17 @@ pub fn a_tick_of_a_settled_world()
 pub fn settled_worlds_stay_settled()
     ensures { (w : Worldly) (vs : List Worldly) → HasRun w → IsSettledWorld w
         → AreOtherAfter w.plan w.now → LosesNothingWhereRowsAge w.plan w.now → AreCleanTicks w vs
+        → IsSettledWorld (last_of w vs)
+        × HasSameDistances (frozen_as V1 w) (frozen_as V1 (last_of w vs)) }
+{}
+
+/// A world has come from its beginning by ticks, and has settled. It passes further ticks, one after
+/// the other, each of which leaves no frame under way, while no cable loses frames and no later action
+/// of the plan sends a datagram of type 1 or 6. After them it has settled as before, and each row has
+/// its range and its distance.
+pub fn worlds_without_loss_stay_settled()
+    ensures { (w : Worldly) (vs : List Worldly) → HasRun w → IsSettledWorld w
+        → AreOtherAfter w.plan w.now → LosesNothingAfter w.plan w.now → AreEmptyTicks w vs
         → IsSettledWorld (last_of w vs)
         × HasSameDistances (frozen_as V1 w) (frozen_as V1 (last_of w vs)) }
 {}
