@@ -45,6 +45,7 @@ pub(crate) struct Read<'a> {
 }
 
 /// The block at the front of the bytes; none, where they end within what is looked at.
+#[inline(always)]
 pub(crate) fn read_block<'a>(
     section: &mut Section,
     bytes: &'a [u8],

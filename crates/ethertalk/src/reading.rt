@@ -68,6 +68,7 @@ fn header_at(bytes: &[u8]) -> Result<(&[u8], &[u8]), Fault>
     Ok((front, rest))
 }
 
+#[inline(always)]
 fn protocol_at(bytes: &[u8]) -> Result<(&[u8], &[u8]), Fault>
     ensures { Gives (λ x. (x.0.now, x.1.now)) result
         (field_at faults (run 5 wrong_protocol) bytes.now) }
@@ -79,6 +80,7 @@ fn protocol_at(bytes: &[u8]) -> Result<(&[u8], &[u8]), Fault>
     Ok((front, rest))
 }
 
+#[inline(always)]
 fn kind_of(protocol: &[u8]) -> Kind
     ensures { result ≡ frames_spec.kind_of protocol.now }
 {

@@ -50,6 +50,7 @@ fn hear_by_reaction<T: RouteTable>(
 
 /// Receives a datagram on one of the ports: the router handles it, and learns from it, from
 /// nonextended tuples as said. Error: `Memory`; neither the router nor the outputs change then.
+#[inline(always)]
 pub(crate) fn hear_datagram<T: RouteTable>(
     router: &mut Router<T>,
     heard: &Heard<'_>,

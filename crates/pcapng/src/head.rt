@@ -189,6 +189,7 @@ impl Head {
     /// header, nor the header of a classic capture, if there may be one, and where a section header
     /// has no order of bytes; `Length` where the length of a pcapng block isn't a multiple of four or
     /// is less than 12, or that of a record has more than 32 bits.
+    #[inline(always)]
     pub fn read(began: Began, bytes: &[u8]) -> Result<Head, Fault>
         ensures read { result ≡ spec.head_of began bytes.now }
         ensures least { IfOk result (λ head. 12 ≤ head.len) }

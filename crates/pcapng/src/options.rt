@@ -148,6 +148,7 @@ fn any_lost(order: Order, most: u32, bytes: &[u8]) -> bool
 
 /// Whether a packet's options say that its frame was lost. They come after so many bytes and their
 /// padding.
+#[inline(always)]
 pub(crate) fn says_lost(order: Order, len: u32, bytes: &[u8]) -> bool
     ensures { result
         ≡ list_any spec.is_lost (spec.options_of order (drop (fields_spec.gap len) bytes.now)) }

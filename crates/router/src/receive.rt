@@ -20,6 +20,7 @@ use station::{Heard, Output, Outputs};
 use std::alloc::Global;
 
 /// The output for the datagram itself, if a step is taken. Error: `Memory`.
+#[inline(always)]
 fn fate(alloc: Global, step: Option<Step>, view: &View<'_>) -> Result<Option<Output>, Error>
     requires { IfSome step (IsNear view.now.hops) }
     ensures ok { IfOk result (λ made. option_to_list made ≡ spec.fate step view.now) }

@@ -40,6 +40,7 @@ impl Model for Counting {
 }
 
 /// Prints what was put at a time, and forgets it.
+#[inline(always)]
 fn print_all<W: Write>(
     output: &mut Output<W>,
     router: &CabledRouter<Routes>,
@@ -100,8 +101,8 @@ impl Counting {
         }
     }
 
-    /// So many ticks, at a time.
-    pub(crate) fn pass<W: Write, S: Watch>(
+    /// So many ticks, one after the other.
+    fn pass_all<W: Write, S: Watch>(
         &mut self,
         output: &mut Output<W>,
         watch: &mut S,
@@ -119,7 +120,28 @@ impl Counting {
         self.tick(output, time)?;
         self.ticks = self.ticks.saturating_add(1);
         watch.ticked(&self.router, self.ticks, self.dropped);
-        self.pass(output, watch, time, count - 1)
+        self.pass_all(output, watch, time, count - 1)
+    }
+
+    /// So many ticks, at a time.
+    #[inline(always)]
+    pub(crate) fn pass<W: Write, S: Watch>(
+        &mut self,
+        output: &mut Output<W>,
+        watch: &mut S,
+        time: u64,
+        count: u16,
+    ) -> Result<(), Error>
+        ensures came { OnOk result (Happened time self.old (ticks count) self.new
+            (W.contents output.old.writer) output.old.text.items
+            (W.contents output.new.writer) output.new.text.items) }
+        ensures prints { Prints output.old.faults output.new.faults result }
+    {
+        // In most blocks no tick passes.
+        if count == 0 {
+            return Ok(());
+        }
+        self.pass_all(output, watch, time, count)
     }
 
     /// A frame on the cable of a port, at a time.

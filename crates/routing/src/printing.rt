@@ -101,6 +101,10 @@ pub(crate) fn print_puts<W: Write>(
         [] => Ok(()),
         [put, rest @ ..] => {
             print_put(output, ports, time, put)?;
+            // Most events put one packet.
+            if rest.is_empty() {
+                return Ok(());
+            }
             print_puts(output, ports, time, rest)
         }
     }
