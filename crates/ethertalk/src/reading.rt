@@ -51,6 +51,7 @@ fn length_at(bytes: &[u8]) -> Result<(u16, &[u8]), Fault>
     Ok((len, rest))
 }
 
+#[inline(always)]
 fn is_word(word: &[u8], other: &[u8]) -> bool
     ensures { result ≡ same_bytes word.now other.now }
 {

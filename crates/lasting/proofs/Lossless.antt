@@ -22,7 +22,7 @@ still_none w v run s others lossless t =
     t.pending
 
 -- nor does a cable lose frames later on
-lossless_later : (w v : Worldly) → IsNextTick w v → LosesNothingAfter w.plan w.now → LosesNothingAfter v.plan v.now
+pub lossless_later : (w v : Worldly) → IsNextTick w v → LosesNothingAfter w.plan w.now → LosesNothingAfter v.plan v.now
 lossless_later w v t lossless tick cable lt =
     let now = t.now in
     subst (λ (p : Planned). loses_at p tick cable ≡ false) (sym t.plan) (lossless tick cable (omega (arith, now, lt)))

@@ -24,7 +24,7 @@ unfolding packet address
 size w h = omega (arith, length-append {A = ℕ}, h.1.1.1.1.0.0, h.1.1.1.1.1.1.1.0.0)
 
 -- the size of a packet as it is written, by those of its hardware addresses
-written_size : (p : Packet) → length (bytes_of packet (written p)) ≡ 16 + length p.source_hw.0 + length p.target_hw.0
+pub written_size : (p : Packet) → length (bytes_of packet (written p)) ≡ 16 + length p.source_hw.0 + length p.target_hw.0
 unfolding packet address
 written_size p = omega (arith, length-append {A = ℕ})
 
@@ -41,6 +41,18 @@ pub record IsFitting (p : Packet) : Type 0 where
 pub written_fits : (p : Packet) → IsValue packet (written p) → IsFitting p
 unfolding packet address
 written_fits p h = record {
+  source_hw = h.1.1.1.1.0.0;
+  source_net = h.1.1.1.1.1.1.0.0.0;
+  source_node = h.1.1.1.1.1.1.0.1.0.0;
+  target_hw = h.1.1.1.1.1.1.1.0.0;
+  target_net = h.1.1.1.1.1.1.1.1.1.0.0.0;
+  target_node = h.1.1.1.1.1.1.1.1.1.0.1.0.0;
+}
+
+-- so do those of any packet
+pub whole_fits : (w : Whole) → IsValue packet w → IsFitting w.packet
+unfolding packet address
+whole_fits w h = record {
   source_hw = h.1.1.1.1.0.0;
   source_net = h.1.1.1.1.1.1.0.0.0;
   source_node = h.1.1.1.1.1.1.0.1.0.0;
@@ -76,7 +88,7 @@ as_response p f = (
 )
 
 -- so may a packet whose function is that of a response
-response_value : (p : Packet) → p.function ≡ Response → IsFitting p → IsValue packet (written p)
+pub response_value : (p : Packet) → p.function ≡ Response → IsFitting p → IsValue packet (written p)
 response_value p is f =
     let made : Function → Packet = λ g. record p { function = g } in
     subst (λ (q : Packet). IsValue packet (written q)) (ap made (sym is)) (as_response p f)

@@ -25,6 +25,7 @@ use Rattle.settled.specs.Settling.{IsSettled}
 use Rattle.station.specs.declared.member.Member.{Member}
 use Rattle.station.specs.declared.member.Member.TheVariants as member
 use Rattle.table_image.specs.Bounds.{IsBounded}
+use Rattle.table_image.specs.declared.version.Version.{Version}
 use Rattle.table_image.specs.declared.version.Version.TheVariants.{V1}
 use Rattle.world.specs.Frozen.{frozen_as}
 use Rattle.world.specs.Losing.{loses_at}
@@ -50,15 +51,19 @@ PoisonsNoRow w =
     → IsNoNextRouter w.stations (plan_seats w.plan) seat h.next
 
 -- No frame is under way; no datagram of type 1 or 6 is held, and the next tick poisons no row; the stations have settled; and
--- the image, of version 1, is within an image's limits, passes the audit and is settled.
-pub record IsSettledWorld (w : Worldly) : Type 0 where
+-- the image, of this version, is within an image's limits, passes the audit and is settled.
+pub record IsSettledIn (version : Version) (w : Worldly) : Type 0 where
   pub pending : pending_on w.wires.cabling ≡ []
   pub plain : (k : ℕ) (h : Holding) → slice_get (still_held (happened w.wires)) k ≡ Some h → IsPlain h.bytes
   pub spared : PoisonsNoRow w
   pub stations : (k : ℕ) (m : Member Living LivingNode) → slice_get w.stations k ≡ Some m → HasSettled m
-  pub passes : Passes (frozen_as V1 w)
-  pub settled : IsSettled (frozen_as V1 w)
-  pub bounded : IsBounded (frozen_as V1 w)
+  pub passes : Passes (frozen_as version w)
+  pub settled : IsSettled (frozen_as version w)
+  pub bounded : IsBounded (frozen_as version w)
+
+-- the world has settled, by its image of version 1
+abbrev pub IsSettledWorld : Worldly → Type 0
+IsSettledWorld = IsSettledIn V1
 
 -- The world passed a tick, which left no frame under way, and after which the next one poisons no row.
 pub record IsCleanTick (old new : Worldly) : Type 0 where

@@ -12,8 +12,8 @@ ghost use Rattle.lasting.specs.Resting.{AreOther, AreOtherAfter, AreTicks};
 ghost use Rattle.lasting.specs.Resting.{IsNumbered, LosesNothingAfter};
 ghost use Rattle.lasting.specs.Resting.{HasSameDistances, IsAtRest, StaysSettled, last_of};
 ghost use Rattle.lasting.specs.Begun.{AreNextTicks, HasRun, IsNextTick};
-ghost use Rattle.lasting.specs.Settled.{AreCleanTicks, AreEmptyTicks, IsSettledWorld};
-ghost use Rattle.lasting.specs.Settled.{LosesNothingWhereRowsAge};
+ghost use Rattle.lasting.specs.Settled.{AreCleanTicks, AreEmptyTicks, IsSettledIn};
+ghost use Rattle.lasting.specs.Settled.{IsSettledWorld, LosesNothingWhereRowsAge};
 ghost use Rattle.lasting.specs.Standing.{AreSettled, AskNoMore, HaveAddresses};
 ghost use Rattle.live_router.specs.Living.{LiveHears, Living};
 ghost use Rattle.live_router.specs.Ticking.{LiveTicks};
@@ -29,6 +29,7 @@ ghost use Rattle.station.specs.declared.heard.Link.TheVariants.{All};
 ghost use Rattle.station.specs.declared.output.Output.{Output};
 ghost use Rattle.table_image.specs.Bounds.{IsBounded};
 ghost use Rattle.table_image.specs.Internet.{Internet};
+ghost use Rattle.table_image.specs.declared.version.Version.{Version};
 ghost use Rattle.table_image.specs.declared.version.Version.TheVariants.{V1};
 ghost use Rattle.world.specs.Frozen.{frozen_as};
 ghost use Rattle.world.specs.Ticking.{IsTick};
@@ -118,14 +119,15 @@ pub fn settled_worlds_stay_settled()
         × HasSameDistances (frozen_as V1 w) (frozen_as V1 (last_of w vs)) }
 {}
 
-/// A world has come from its beginning by ticks, and has settled. It passes further ticks, one after
-/// the other, each of which leaves no frame under way, while no cable loses frames and no later action
-/// of the plan sends a datagram of type 1 or 6. After them it has settled as before, and each row has
-/// its range and its distance.
+/// A world has come from its beginning by ticks, and has settled, by its image of either version: by
+/// that of version 2 what its stations have learnt of hardware addresses is true. It passes further
+/// ticks, one after the other, each of which leaves no frame under way, while no cable loses frames
+/// and no later action of the plan sends a datagram of type 1 or 6. After them it has settled as
+/// before, by that image, and each row has its range and its distance.
 pub fn worlds_without_loss_stay_settled()
-    ensures { (w : Worldly) (vs : List Worldly) → HasRun w → IsSettledWorld w
-        → AreOtherAfter w.plan w.now → LosesNothingAfter w.plan w.now → AreEmptyTicks w vs
-        → IsSettledWorld (last_of w vs)
+    ensures { (version : Version) (w : Worldly) (vs : List Worldly) → HasRun w
+        → IsSettledIn version w → AreOtherAfter w.plan w.now → LosesNothingAfter w.plan w.now
+        → AreEmptyTicks w vs → IsSettledIn version (last_of w vs)
         × HasSameDistances (frozen_as V1 w) (frozen_as V1 (last_of w vs)) }
 {}
 

@@ -156,6 +156,7 @@ fn other_head(forms: Forms, magic: &[u8]) -> Result<Head, Fault>
     }
 }
 
+#[inline(always)]
 fn head_by(began: Began, first: &[u8], second: &[u8], third: &[u8]) -> Result<Head, Fault>
     requires first { length first.now ≡ 4 }
     requires second { length second.now ≡ 4 }

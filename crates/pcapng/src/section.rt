@@ -261,6 +261,7 @@ impl Section {
     ///
     /// Errors: `Length` where its two lengths differ; `Cut` where it is too short for its fields;
     /// `Version` and `Interface`. After an error the section is as before.
+    #[inline(always)]
     pub fn block<'a>(&mut self, head: Head, bytes: &'a [u8]) -> Result<Block<'a>, Fault>
         requires there { length bytes.now ≡ heads_spec.front head }
         requires least { 12 ≤ head.len }

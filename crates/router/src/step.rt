@@ -50,6 +50,7 @@ fn handed_on(alloc: Global, view: &View<'_>) -> Result<Bytes, Error>
 
 impl Step {
     /// The output for the datagram in this step. Error: `Memory`.
+    #[inline(always)]
     pub(crate) fn output(self, alloc: Global, view: &View<'_>) -> Result<Output, Error>
         requires { IsNear view.now.hops self }
         ensures ok { IfOk result (λ output. output ≡ output_of self view.now) }
