@@ -42,6 +42,8 @@ def peak_before_end(process, pieces):
             process.stdin.write(piece)
         process.stdin.flush()
         while int.from_bytes(fcntl.ioctl(process.stdin, termios.FIONREAD, bytes(4)), sys.byteorder):
+            if process.poll() is not None:
+                return 0  # it ended early, and takes no more
             time.sleep(0.001)
         time.sleep(0.05)  # what it took, it works on
         with open(f"/proc/{process.pid}/status", encoding="ascii") as status:
