@@ -2,7 +2,7 @@
 import re
 from typing import Callable, NamedTuple
 
-from peer import internet
+from peer import asked_checks, internet
 from peer.bench import Bench
 from peer.frames import ALL, Addr, Distance, Frame, addr, broadcast_request, distances_of, net_info_of, objects_of
 from peer.guest import Answer, Failure, Guest
@@ -249,6 +249,7 @@ def run(bench: Bench, boot: float) -> None:
         registers(bench, peers)
         looks_up(bench, peers)
         asks_for_names(bench, peers.near)
+        asked_checks.run(bench, peers)
 
     other_range(bench, names)
     dies(bench, peers)

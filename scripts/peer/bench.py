@@ -5,6 +5,7 @@ import time
 from typing import Callable, Optional
 
 from peer import pcapng
+from peer.asker import Answered, Question
 from peer.frames import Frame
 from peer.guest import Failure, Guest
 from peer.router import Router
@@ -25,6 +26,8 @@ class Bench:
         self.shots: list[Shot] = []
         self.routers: list[Router] = []
         self.guests: list[Guest] = []
+        self.questions: list[Question] = []
+        self.asked = 0
         self.ready = selectors.DefaultSelector()
         self.next_beat = time.monotonic()
         self.capture = open(os.path.join(folder, "all.pcapng"), "wb")
@@ -79,6 +82,23 @@ class Bench:
         guest.end()
         self.guests.remove(guest)
 
+    def ask(self, questions: list[tuple[int, list[str]]], seconds: float) -> list[Answered]:
+        """Asks all of these at once, each a cable and the words of the question."""
+        for place, words in questions:
+            self.asked += 1
+            question = Question(f"q{self.asked}", self.program, self.cables[place - 1], self.folder, self.scratch, words)
+            self.questions.append(question)
+            self.ready.register(question.plug.socket, selectors.EVENT_READ, question.plug)
+        self.wait(lambda: all(question.run.poll() is not None for question in self.questions), seconds)
+        return self.end_questions()
+
+    def end_questions(self) -> list[Answered]:
+        for question in self.questions:
+            self.ready.unregister(question.plug.socket)
+        answers = [question.end() for question in self.questions]
+        self.questions.clear()
+        return answers
+
     def beat(self) -> None:
         """A heartbeat to each router. One that is late isn't made up for: the times count."""
         if time.monotonic() >= self.next_beat:
@@ -90,7 +110,7 @@ class Bench:
 
     def step(self, until: float) -> None:
         """Carries what comes until the next heartbeat, or this time."""
-        plugs = [plug for guest in self.guests for plug in guest.plugs]
+        plugs = [plug for guest in self.guests for plug in guest.plugs] + [question.plug for question in self.questions]
         is_full = any(plug.waiting for plug in plugs) or any(router.untold for router in self.routers)
         wait = min(self.next_beat, until) - time.monotonic()
         for key, _ in self.ready.select(max(0, min(wait, AGAIN) if is_full else wait)):
@@ -121,6 +141,7 @@ class Bench:
         return router.end()
 
     def close(self) -> None:
+        self.end_questions()
         for guest in list(self.guests):
             self.end_guest(guest)
         for router in self.routers:

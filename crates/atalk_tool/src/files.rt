@@ -69,6 +69,8 @@ fn files_of<'a>(job: &Job<'a>) -> Uses<'a> {
             image: route.image,
             ..reading("FILE", route.source)
         },
+        Job::Survey(_, _) => reading("FILE", Source::StandardInput),
+        Job::Ask(_, _, _, _) => reading("FILE", Source::StandardInput),
     }
 }
 

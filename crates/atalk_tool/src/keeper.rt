@@ -121,8 +121,8 @@ impl<'a> Keeper<'a> {
     }
 }
 
-impl Watch for Keeper<'_> {
-    fn ticked(&mut self, router: &CabledRouter<Routes>, ticks: u64, dropped: u64) {
+impl Watch<CabledRouter<Routes>> for Keeper<'_> {
+    fn ticked(&mut self, router: &CabledRouter<Routes>, _time: u64, ticks: u64, dropped: u64) {
         if self.known.is_some() {
             self.tell(router, ticks, dropped);
         }
@@ -130,4 +130,6 @@ impl Watch for Keeper<'_> {
             self.save(router);
         }
     }
+
+    fn heard(&mut self, _router: &CabledRouter<Routes>, _time: u64, _bytes: &[u8]) {}
 }

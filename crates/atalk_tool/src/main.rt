@@ -1,8 +1,9 @@
 //! The program `atalk`: audits an image of an internet's tables, runs scripts over it, shows and
-//! draws it, joins several, makes one of a tables file, and plays internet files, whose final tables
-//! it writes as an image.
+//! draws it, joins several, makes one of a tables file, plays internet files, whose final tables it
+//! writes as an image, and routes and asks on real cables.
 #![tactic(auto)]
 
+mod asking;
 mod explain;
 mod files;
 mod keeper;
@@ -11,7 +12,9 @@ mod objects;
 mod outputs;
 mod performed;
 mod printing;
+mod question_words;
 mod run;
+mod run_ask;
 mod run_join;
 mod run_play;
 mod run_route;

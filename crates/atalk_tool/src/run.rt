@@ -10,6 +10,8 @@ use crate::objects::print_objects;
 use crate::outputs::Wanted;
 use crate::performed::Performed;
 use crate::printing::Printing;
+use crate::question_words::Words;
+use crate::run_ask::{run_ask, run_survey};
 use crate::run_join::{JoinJob, join_sources};
 use crate::run_play::{PlayJob, play_source};
 use crate::run_route::run_route;
@@ -148,7 +150,7 @@ fn answer<R: Print + Eprint + AllocGlobal>(
 {
     let status = finish(rt, &performed.outcome, name);
     if telling.lines == Lines::Json {
-        print_objects(rt, performed, name);
+        print_objects(rt, telling.objects, performed, name);
     }
     if telling.explains {
         explain(rt, &performed.outcome, &performed.evidence);
@@ -198,6 +200,17 @@ fn perform<'a>(rt: &HostRuntime, request: &Request<'a>, telling: Telling) -> Per
             join_sources(rt, job, telling)
         }
         Job::Route(route) => run_route(rt, route, request.cables.as_slice()),
+        Job::Survey(station, log) => run_survey(rt, station, log),
+        Job::Ask(station, local, mine, count) => {
+            let question = request.question.as_slice();
+            let words = Words {
+                question,
+                local,
+                mine,
+                count,
+            };
+            run_ask(rt, station, words, telling)
+        }
     }
 }
 

@@ -154,7 +154,7 @@ fn run_over<'a>(
     };
     stream
         .watch
-        .end(stream.routing.router(), outputs, answer, wanted)
+        .end(stream.routing.station(), outputs, answer, wanted)
 }
 
 /// Runs a router of a plan.

@@ -4,7 +4,7 @@ ghost use Rattle.std.specs.Prelude.{◌≡◌, true};
 
 use crate::performed::Performed;
 use clap::error::ErrorKind as ParseError;
-use command_line::{Outcome, Request};
+use command_line::{Job, Outcome, Request};
 use std::env::{VarError, var};
 use std::io::IsTerminal;
 use std::rt::Env;
@@ -31,6 +31,14 @@ pub enum Lines {
     Nothing,
 }
 
+/// Where the objects of a refusal and of notes go.
+#[derive(Clone, Copy, Debug, PartialEq, Eq)]
+pub enum Objects {
+    Output,
+    /// Standard output carries a capture.
+    Errors,
+}
+
 /// What is told of a result, and where.
 #[derive(Clone, Copy)]
 pub struct Telling {
@@ -42,6 +50,8 @@ pub struct Telling {
     pub explains: bool,
     /// What is printed on standard output.
     pub lines: Lines,
+    /// Where the objects of a refusal and of notes go.
+    pub objects: Objects,
     /// Whether it is told of tables that pass whether they stay as they are.
     pub settled: bool,
 }
@@ -62,6 +72,14 @@ fn when_of(word: &str) -> Option<When> {
         "always" => Some(When::Always),
         "never" => Some(When::Never),
         _ => None,
+    }
+}
+
+/// Where the objects of a job's refusal and notes go.
+fn objects_of(job: &Job<'_>) -> Objects {
+    match job {
+        Job::Route(_) | Job::Survey(_, _) | Job::Ask(_, _, _, _) => Objects::Errors,
+        _ => Objects::Output,
     }
 }
 
@@ -108,6 +126,7 @@ impl Terminals {
             watched: self.errors,
             explains: self.errors,
             lines: Lines::Text,
+            objects: Objects::Output,
             settled: false,
         }
     }
@@ -136,6 +155,7 @@ impl Telling {
                 (false, true) => Lines::Json,
                 (false, false) => Lines::Text,
             },
+            objects: objects_of(&request.job),
             settled: request.settled,
             ..telling
         })

@@ -1,3 +1,4 @@
 pub mod Putting
+pub mod Acting
 pub mod Asked
 pub mod Steps

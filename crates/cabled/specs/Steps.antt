@@ -12,6 +12,7 @@ use Rattle.at_base.specs.Range.{Span}
 use Rattle.at_base.specs.Text.{same_bytes}
 use Rattle.at_base.specs.declared.address.Addr.{Addr}
 use Rattle.at_base.specs.declared.address.Hw.{Hw}
+use Rattle.cabled.specs.Acting.{Acting, Event, Heard, Tick}
 use Rattle.cabled.specs.Asked.{routes_asked}
 use Rattle.cabled.specs.Putting.{Put, all_asked, all_dressed, released_by, with_answer, with_tick}
 use Rattle.cabled.specs.declared.peers.Peers.{Peers}
@@ -249,3 +250,14 @@ begun peers plans zones = record {
   ports = map first_port plans;
   peers = peers;
 }
+
+-- ---- An event
+
+-- What a router puts for an event, and its state after it.
+abbrev pub step : Running → Event → List Put × Running
+step r Tick = ticked r
+step r (Heard k f) = heard r k f
+
+-- What a router on real cables does; it is never done.
+abbrev pub router_acts : Acting Running
+router_acts = record { step = step; ports = λ r. r.ports; is_done = λ r. false }

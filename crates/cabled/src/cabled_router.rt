@@ -9,6 +9,7 @@ ghost use Rattle.ethertalk.specs.Frames.{framed};
 ghost use Rattle.station.specs.Hearing.{hearing};
 ghost use Rattle.station.specs.Ports.{is_planned};
 
+use crate::acting::Cabled;
 use crate::hearing::hear_frame;
 use crate::peers::Peers;
 use crate::puts::Puts;
@@ -69,7 +70,7 @@ fn link_at(peers: Peers, port: &Port, frame: &Frame<'_>) -> Option<Link>
 }
 
 /// A frame as the port with a number hears it, if there is such a port and the frame is for it.
-fn heard_at<'a>(ports: &[Port], peers: Peers, port: u8, frame: &Frame<'a>) -> Option<Heard<'a>>
+pub fn heard_at<'a>(ports: &[Port], peers: Peers, port: u8, frame: &Frame<'a>) -> Option<Heard<'a>>
     ensures value { option_map hearing result
         ≡ spec.hearing_at peers ports.now port (framed frame.now) }
     ensures inside { IfSome result (λ heard. heard.port < length ports.now) }
@@ -235,5 +236,28 @@ impl<T: RouteTable> CabledRouter<T> {
         // Only the prover needs this read: it shows that there are at most 16 ports.
         let _ports = self.router.router().ports_now();
         tick_all(&mut self.router, self.ports.as_mut_slice(), puts)
+    }
+}
+
+impl<T: RouteTable> Cabled for CabledRouter<T> {
+    ghost use Rattle.cabled.specs.Steps.{router_acts};
+
+    ghost acts = { router_acts };
+
+    fn own_ports(&self) -> &[Port] {
+        self.ports()
+    }
+
+    /// A router goes on for ever.
+    fn is_done(&self) -> bool {
+        false
+    }
+
+    fn receive(&mut self, port: u8, frame: &Frame<'_>, puts: &mut Puts) -> Result<(), Error> {
+        self.hear(port, frame, puts)
+    }
+
+    fn advance(&mut self, puts: &mut Puts) -> Result<(), Error> {
+        self.tick(puts)
     }
 }

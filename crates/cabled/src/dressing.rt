@@ -70,8 +70,8 @@ fn send_to(puts: &mut Puts, port: &mut Port, number: u8, next: Addr, bytes: Byte
     }
 }
 
-/// Sends a datagram by a port.
-fn send(puts: &mut Puts, port: &mut Port, number: u8, next: Next, bytes: Bytes)
+/// Sends a datagram by a port with this number. The caller ensures that there is room for a packet.
+pub fn send(puts: &mut Puts, port: &mut Port, number: u8, next: Next, bytes: Bytes)
     requires { 0 < puts.old.spare }
     ensures put { puts.new.items ≡ puts.old.items ++ (spec.sent number next bytes port.old).0 }
     ensures after { port.new ≡ (spec.sent number next bytes port.old).1 }

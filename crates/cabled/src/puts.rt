@@ -48,7 +48,7 @@ impl Puts {
     }
 
     /// Adds a packet at the end. The caller ensures that there is room. Allocates nothing.
-    pub(crate) fn add(&mut self, put: Put)
+    pub fn add(&mut self, put: Put)
         requires { 0 < self.old.spare }
         ensures added { self.new.items ≡ self.old.items ++ put ∷ [] }
         ensures spare { self.new.spare + 1 ≡ self.old.spare }

@@ -31,7 +31,7 @@ fn call_all(ports: &mut [Port], choosers: &[Chooser])
 }
 
 /// Puts the requests of a port for these addresses. The caller ensures that there is room for them.
-fn ask_each(puts: &mut Puts, port: &Port, number: u8, addrs: &[Addr])
+pub fn ask_each(puts: &mut Puts, port: &Port, number: u8, addrs: &[Addr])
     requires { length addrs.now ≤ puts.old.spare }
     ensures put { puts.new.items
         ≡ puts.old.items ++ map (λ a. asked_by number a port.now) addrs.now }

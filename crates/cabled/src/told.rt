@@ -48,7 +48,12 @@ fn is_another(hw: Hw, known: Option<Hw>) -> bool
 
 /// Learns the mapping in a response, and puts what waits at the port for its source. The caller
 /// ensures that there is room for 16 packets. Error: `Memory`; nothing changes then.
-fn hear_response(puts: &mut Puts, port: &mut Port, number: u8, packet: &Packet) -> Result<(), Error>
+pub fn hear_response(
+    puts: &mut Puts,
+    port: &mut Port,
+    number: u8,
+    packet: &Packet,
+) -> Result<(), Error>
     requires { max_held ≤ puts.old.spare }
     ensures put { OnOk result (puts.new.items ≡ puts.old.items ++ putting_spec.released_by number
         packet.now.source packet.now.source_hw port.old.maps.held) }
@@ -81,7 +86,7 @@ fn doubt(port: &mut Port, peers: Peers, addr: Addr, hw: Hw)
 }
 
 /// A port hears an AARP packet that asks for a response: a probe may end a mapping.
-fn hear_question(port: &mut Port, number: u8, peers: Peers, packet: &Packet)
+pub fn hear_question(port: &mut Port, number: u8, peers: Peers, packet: &Packet)
     requires { wants packet.now.function ≡ true }
     ensures none { (spec.told peers number packet.now port.old).0 ≡ [] }
     ensures after { port.new ≡ (spec.told peers number packet.now port.old).1 }

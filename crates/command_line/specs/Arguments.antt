@@ -5,9 +5,10 @@ use Rattle.std.specs.Borrow.{Bor}
 use Rattle.std.specs.Str.{bytes_eq}
 use Rattle.clap.specs.Words.{Row, Text, all_of, first_of}
 use Rattle.command_line.specs.declared.arguments.Job.{Job}
-use Rattle.command_line.specs.declared.arguments.Job.TheVariants.{Audit, Draw, Join, Make, Play, Route, Show, Trace}
+use Rattle.command_line.specs.declared.arguments.Job.TheVariants.{Ask, Audit, Draw, Join, Make, Play, Route, Show, Survey, Trace}
 use Rattle.command_line.specs.declared.arguments.Request.{Request}
 use Rattle.command_line.specs.declared.arguments.Source.{Source}
+use Rattle.command_line.specs.declared.arguments.Station.{Station}
 use Rattle.command_line.specs.declared.arguments.Source.TheVariants.{StandardInput, File}
 use Rattle.clap.specs.declared.error.ErrorKind.{ErrorKind}
 use Rattle.clap.specs.declared.error.ErrorKind.TheVariants.{DisplayHelp, DisplayVersion}
@@ -83,6 +84,22 @@ Routes file router out every log (Route it) =
     × (option_map (λ word. word.now) it.every ≡ every) × (it.log ≡ log)
 Routes file router out every log _ = ⊥
 
+-- The station is on the cable in the first text, with the hardware address in the second.
+abbrev pub IsStation : Option Text → Option Text → Station → Type 0
+IsStation cable hardware it = IsWord cable it.cable.now × IsWord hardware it.hardware.now
+
+-- The job is a survey by this station, which tells of answers if the flag is given.
+abbrev pub Surveys : Option Text → Option Text → Bool → Job → Type 0
+Surveys cable hardware log (Survey it told) = IsStation cable hardware it × (told ≡ log)
+Surveys cable hardware log _ = ⊥
+
+-- The job is a question by this station, about its own cable's zones or zone if a flag is given, as often as the word in the
+-- third text says, if there is one.
+abbrev pub AsksOne : Option Text → Option Text → Bool → Bool → Option Text → Job → Type 0
+AsksOne cable hardware local mine count (Ask it l m c) =
+    IsStation cable hardware it × (l ≡ local) × (m ≡ mine) × (option_map (λ word. word.now) c ≡ count)
+AsksOne cable hardware local mine count _ = ⊥
+
 -- A command of the program.
 pub data Asked : Type 0 where
   ToAudit : Asked
@@ -93,6 +110,8 @@ pub data Asked : Type 0 where
   ToDraw : Asked
   ToJoin : Asked
   ToRoute : Asked
+  ToSurvey : Asked
+  ToAsk : Asked
 
 -- The command with this name: `audit` where it is none of the others.
 abbrev pub asked : Text → Asked
@@ -100,7 +119,8 @@ asked name =
     cond (bytes_eq name (codes "trace")) ToTrace (cond (bytes_eq name (codes "play")) ToPlay
     (cond (bytes_eq name (codes "make")) ToMake (cond (bytes_eq name (codes "show")) ToShow
     (cond (bytes_eq name (codes "draw")) ToDraw (cond (bytes_eq name (codes "join")) ToJoin
-    (cond (bytes_eq name (codes "route")) ToRoute ToAudit))))))
+    (cond (bytes_eq name (codes "route")) ToRoute (cond (bytes_eq name (codes "survey")) ToSurvey
+    (cond (bytes_eq name (codes "ask")) ToAsk ToAudit))))))))
 
 -- The job of a command with these operands.
 abbrev pub IsMeantBy : Asked → List Row → Job → Type 0
@@ -117,6 +137,11 @@ IsMeantBy ToJoin rows job = Joins (first_of (codes "FILE") rows) (first_of (code
 IsMeantBy ToRoute rows job =
     Routes (first_of (codes "FILE") rows) (first_of (codes "N") rows) (first_of (codes "OUT") rows) (first_of (codes "TICKS") rows)
     (is_set (first_of (codes "LOG") rows)) job
+IsMeantBy ToSurvey rows job =
+    Surveys (first_of (codes "NAME") rows) (first_of (codes "HEX") rows) (is_set (first_of (codes "LOG") rows)) job
+IsMeantBy ToAsk rows job =
+    AsksOne (first_of (codes "NAME") rows) (first_of (codes "HEX") rows) (is_set (first_of (codes "LOCAL") rows))
+    (is_set (first_of (codes "MINE") rows)) (first_of (codes "COUNT") rows) job
 
 -- The job of the command that was matched, with its operands; without a command, an audit of standard input.
 abbrev pub IsMeant : Option (Text × List Row) → Job → Type 0
@@ -157,10 +182,15 @@ abbrev pub AreCables : Option (Text × List Row) → Request → Type 0
 AreCables None r = r.cables.items ≡ []
 AreCables (Some met) r = map (λ word. word.now) r.cables.items ≡ unwrap_or (all_of (codes "K=NAME") met.1) []
 
--- The request for the job of the command that was matched, with what is told, with the further sources, and with the words
--- for cables.
+-- The words of the operand QUESTION, in their order.
+abbrev pub AreAsked : Option (Text × List Row) → Request → Type 0
+AreAsked None r = r.question.items ≡ []
+AreAsked (Some met) r = map (λ word. word.now) r.question.items ≡ unwrap_or (all_of (codes "QUESTION") met.1) []
+
+-- The request for the job of the command that was matched, with what is told, with the further sources, with the words for
+-- cables, and with those of a question.
 abbrev pub IsRequest : Option (Text × List Row) → Request → Type 0
-IsRequest met r = IsMeant met r.job × IsTold met r × IsFurther met r × AreCables met r
+IsRequest met r = IsMeant met r.job × IsTold met r × IsFurther met r × AreCables met r × AreAsked met r
 
 -- A flag that asks for a text about the program.
 pub data About : Type 0 where

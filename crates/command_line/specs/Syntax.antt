@@ -129,6 +129,39 @@ cabled_app = with_rule (with_rule (with_rule (new_app (codes "route")) (operand 
 abbrev pub route_app : App
 route_app = with_explain (with_rule (with_rule (with_rule cabled_app out_option) every_option) log_flag)
 
+-- The required option `--cable NAME`.
+abbrev pub name_option : Rule
+name_option = record (operand (codes "NAME")) { long = Some (codes "cable") }
+
+-- The required option `--hardware HEX`.
+abbrev pub hardware_option : Rule
+hardware_option = record (operand (codes "HEX")) { long = Some (codes "hardware") }
+
+-- The command of this name, with `--cable NAME` and `--hardware HEX`.
+abbrev pub station_app : Text → App
+station_app name = with_rule (with_rule (new_app name) name_option) hardware_option
+
+-- The command `survey --cable NAME --hardware HEX`, with `--log`.
+abbrev pub survey_app : App
+survey_app = with_explain (with_rule (station_app (codes "survey")) log_flag)
+
+-- The flag with a name, which an option sets.
+abbrev pub flag : Text → Text → Rule
+flag name long = record (new_rule name) { long = Some long; action = Some SetTrue }
+
+-- The option `--count COUNT`.
+abbrev pub count_option : Rule
+count_option = record (new_rule (codes "COUNT")) { long = Some (codes "count"); action = Some Set }
+
+-- The command `ask QUESTION.. --cable NAME --hardware HEX`.
+abbrev pub asking_app : App
+asking_app = with_rule (station_app (codes "ask")) (operands (codes "QUESTION"))
+
+-- The same with `--local`, `--mine` and `--count COUNT`.
+abbrev pub ask_app : App
+ask_app = with_telling (with_rule
+    (with_rule (with_rule asking_app (flag (codes "LOCAL") (codes "local"))) (flag (codes "MINE") (codes "mine"))) count_option)
+
 -- The program `atalk`, with its commands for images.
 abbrev pub images_app : App
 images_app = with_subcommand (with_subcommand bare_app audit_app.top) trace_app.top
@@ -141,6 +174,10 @@ plays_app = with_subcommand images_app play_app.top
 abbrev pub tables_app : App
 tables_app = with_subcommand (with_subcommand (with_subcommand plays_app make_app.top) show_app.top) draw_app.top
 
+-- The program `atalk`, with its commands but those that ask.
+abbrev pub cables_app : App
+cables_app = with_subcommand (with_subcommand tables_app join_app.top) route_app.top
+
 -- The program `atalk`, with its commands.
 abbrev pub atalk_app : App
-atalk_app = with_subcommand (with_subcommand tables_app join_app.top) route_app.top
+atalk_app = with_subcommand (with_subcommand cables_app survey_app.top) ask_app.top

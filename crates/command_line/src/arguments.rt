@@ -8,7 +8,7 @@ ghost use Rattle.clap.specs.Words.{rows_of};
 ghost use Rattle.clap.specs.Words.{subcommand_of, subcommand_rows_of, takes};
 ghost use Rattle.clap.specs.declared.error.ErrorKind.TheVariants.{OutOfMemory};
 ghost use Rattle.command_line.specs.Arguments.{About, AreNamed, IsMeantBy, IsRequest, IsWord, Names};
-ghost use Rattle.command_line.specs.Arguments.{ToRoute, about_kind, about_word, asked, is_set};
+ghost use Rattle.command_line.specs.Arguments.{IsStation, ToAsk, ToRoute, about_kind, about_word, asked, is_set};
 ghost use Rattle.command_line.specs.Arguments.{later, source_for, version_by};
 ghost use Rattle.command_line.specs.Forms.{AreOperands, Asks, Form, operands_of, words_of};
 ghost use Rattle.command_line.specs.Syntax.{atalk_app};
@@ -41,6 +41,15 @@ pub struct Route<'a> {
     pub log: bool,
 }
 
+/// A station on a real cable, with the words of options as they are given.
+#[derive(Clone, Copy, Debug, PartialEq, Eq)]
+pub struct Station<'a> {
+    /// The word of `--cable`.
+    pub cable: &'a str,
+    /// The word of `--hardware`.
+    pub hardware: &'a str,
+}
+
 /// The job that the command line asks for.
 #[derive(Clone, Copy, Debug, PartialEq, Eq)]
 pub enum Job<'a> {
@@ -63,6 +72,11 @@ pub enum Job<'a> {
     Join(Source<'a>, &'a str),
     /// A router of an internet file, on real cables.
     Route(Route<'a>),
+    /// A survey of real routers, and whether answers are told.
+    Survey(Station<'a>, bool),
+    /// A question to real stations: whether it is about the zones of the station's own cable, or about
+    /// its own zone, and the word of `--count`, if it is given.
+    Ask(Station<'a>, bool, bool, Option<&'a str>),
 }
 
 /// What the command line asks for.
@@ -74,6 +88,8 @@ pub struct Request<'a> {
     pub further: Vec<Source<'a>>,
     /// The words of the options `--cable`, in their order.
     pub cables: Vec<&'a str>,
+    /// The words of a question, in their order.
+    pub question: Vec<&'a str>,
     /// The word of `--explain`, if it is given.
     pub explain: Option<&'a str>,
     /// Whether `--quiet` is given.
@@ -131,6 +147,7 @@ fn request_of<'a>(alloc: Global, matches: &ArgMatches<'a>) -> Result<Request<'a>
             job: job_named(name, operands),
             further: further_in(alloc, operands)?,
             cables: cables_in(alloc, operands)?,
+            question: question_in(alloc, operands)?,
             explain: word_in(operands, "WHEN"),
             quiet: flag_in(operands, "QUIET"),
             json: flag_in(operands, "JSON"),
@@ -140,6 +157,7 @@ fn request_of<'a>(alloc: Global, matches: &ArgMatches<'a>) -> Result<Request<'a>
             job: Job::Audit(Source::StandardInput),
             further: Vec::new(alloc),
             cables: Vec::new(alloc),
+            question: Vec::new(alloc),
             explain: None,
             quiet: false,
             json: false,
@@ -210,6 +228,10 @@ fn job_named<'a>(name: &str, operands: &ArgMatches<'a>) -> Job<'a>
         Job::Join(source_in(operands, "FILE"), required_in(operands, "OUT"))
     } else if name == "route" {
         Job::Route(route_in(operands))
+    } else if name == "survey" {
+        Job::Survey(station_in(operands), flag_in(operands, "LOG"))
+    } else if name == "ask" {
+        ask_in(operands)
     } else {
         Job::Audit(source_in(operands, "FILE"))
     }
@@ -246,6 +268,37 @@ fn route_in<'a>(operands: &ArgMatches<'a>) -> Route<'a>
         every: word_in(operands, "TICKS"),
         log: flag_in(operands, "LOG"),
     }
+}
+
+/// The words of the operand QUESTION. Error: `AllocError`.
+fn question_in<'a>(alloc: Global, operands: &ArgMatches<'a>) -> Result<Vec<&'a str>, AllocError>
+    ensures { IfOk result (λ v. map (λ word. word.now) v.items
+        ≡ unwrap_or (all_of (codes "QUESTION") (rows_of (found_of operands.now))) []) }
+{
+    Vec::from_slice(alloc, all_texts(operands.get_strs("QUESTION")))
+}
+
+/// The station of a command.
+fn station_in<'a>(operands: &ArgMatches<'a>) -> Station<'a>
+    ensures { IsStation (first_of (codes "NAME") (rows_of (found_of operands.now)))
+        (first_of (codes "HEX") (rows_of (found_of operands.now))) result }
+{
+    Station {
+        cable: required_in(operands, "NAME"),
+        hardware: required_in(operands, "HEX"),
+    }
+}
+
+/// A question to real stations.
+fn ask_in<'a>(operands: &ArgMatches<'a>) -> Job<'a>
+    ensures { IsMeantBy ToAsk (rows_of (found_of operands.now)) result }
+{
+    Job::Ask(
+        station_in(operands),
+        flag_in(operands, "LOCAL"),
+        flag_in(operands, "MINE"),
+        word_in(operands, "COUNT"),
+    )
 }
 
 /// The source in the operand with this name.

@@ -9,7 +9,7 @@ pub(crate) const AFTER_HELP: &str = "Without a command, atalk audits the image o
 Exit status:
   0  yes: the tables keep every rule; or a run was made
   1  no: the line printed names the first rule that is broken, and where; or, with --settled, the
-     first row that may change
+     first row that may change; or nobody answered a question
   2  the input is refused, for the reason that its number gives; or a usage error
   3  out of memory, or reading or writing failed
 
@@ -37,7 +37,7 @@ More: man atalk, man atalk-image, man atalk-script, man atalk-internet, man atal
 
 pub(crate) const AFTER_COMMAND: &str = "Exit status:
   0  yes: the tables keep every rule; or what was asked for was done
-  1  no: the line printed names the first rule that is broken, and where
+  1  no: the line printed names the first rule that is broken, and where; or nobody answered
   2  refused: the input, by `refused: N` on standard error, or the arguments
   3  out of memory, or reading or writing failed
 
@@ -65,6 +65,26 @@ pub(crate) const JOIN: &str =
     on it";
 
 pub(crate) const ROUTE: &str = "Is a router of an internet file, on real cables";
+
+pub(crate) const SURVEY: &str =
+    "Asks all routers that can be reached from a real cable for what they hold: the capture of the \
+    cable tells it";
+
+pub(crate) const ASK: &str = "Asks stations that can be reached from a real cable one question";
+
+pub(crate) const NAME: &str = "The interface that carries the cable";
+
+pub(crate) const HARDWARE: &str =
+    "The hardware address of the station that asks, in hexadecimal, as 02004E560001";
+
+pub(crate) const QUESTION: &str =
+    "echo ADDR, names OBJECT:TYPE@ZONE, zones, or routes with or without ADDR";
+
+pub(crate) const LOCAL: &str = "The zones of the station's own cable";
+
+pub(crate) const MINE: &str = "The zone in which the station is by default";
+
+pub(crate) const COUNT: &str = "How many echoes are asked for; 1, if it isn't given";
 
 pub(crate) const PARTS: &str =
     "The images, of which each has some of the routers and nodes; - is standard input";

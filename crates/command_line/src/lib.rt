@@ -8,6 +8,6 @@ mod exit_status;
 mod help;
 mod syntax;
 
-pub use arguments::{Job, Request, Route, Source, read_arguments};
+pub use arguments::{Job, Request, Route, Source, Station, read_arguments};
 pub use exit::{Exit, Outcome, exit_of};
 pub use exit_status::status;

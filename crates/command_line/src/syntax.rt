@@ -3,16 +3,18 @@
 ghost use Rattle.std.specs.Prelude.{◌≡◌, IfOk, false};
 ghost use Rattle.clap.specs.Words.{app_of, rule_of};
 ghost use Rattle.clap.specs.declared.Command.TheViews.{out-Command as fields_of};
-ghost use Rattle.command_line.specs.Syntax.{atalk_app, audit_app, cabled_app, draw_app, images_app};
+ghost use Rattle.command_line.specs.Syntax.{ask_app, atalk_app, audit_app, cabled_app, cables_app, draw_app};
+ghost use Rattle.command_line.specs.Syntax.{images_app, survey_app};
 ghost use Rattle.command_line.specs.Syntax.{join_app, make_app, out_option, play_app, plays_app};
 ghost use Rattle.command_line.specs.Syntax.{route_app, show_app, tables_app, tables_play_app};
 ghost use Rattle.command_line.specs.Syntax.{to_option, trace_app, v2_flag};
 ghost use Rattle.command_line.specs.Syntax as spec;
 
 use crate::help::{
-    ABOUT, AFTER_COMMAND, AFTER_HELP, AUDIT, CABLE, CAPTURE, DRAW, EVERY, EXPLAIN, IMAGE, IMAGES,
-    INTERNET, JOIN, JSON, LOG, MAKE, NET, OUT, PARTS, PLAY, QUIET, ROUTE, ROUTED, ROUTER, SCRIPT,
-    SETTLED, SHOW, TABLES, TRACE, VERSION_2,
+    ABOUT, AFTER_COMMAND, AFTER_HELP, ASK, AUDIT, CABLE, CAPTURE, COUNT, DRAW, EVERY, EXPLAIN,
+    HARDWARE, IMAGE, IMAGES, INTERNET, JOIN, JSON, LOCAL, LOG, MAKE, MINE, NAME, NET, OUT, PARTS,
+    PLAY, QUESTION, QUIET, ROUTE, ROUTED, ROUTER, SCRIPT, SETTLED, SHOW, SURVEY, TABLES, TRACE,
+    VERSION_2,
 };
 use clap::{Arg, ArgAction, Command};
 use std::alloc::{AllocError, Global};
@@ -318,6 +320,83 @@ fn route_command<'a>(alloc: Global) -> Result<Command<'a>, AllocError>
     with_explain(alloc, command)
 }
 
+/// `--cable NAME`.
+fn name_option<'a>(alloc: Global) -> Arg<'a>
+    ensures rule { rule_of result ≡ spec.name_option }
+    ensures local { result.global ≡ false }
+{
+    operand(alloc, "NAME", NAME).long("cable")
+}
+
+/// `--hardware HEX`.
+fn hardware_option<'a>(alloc: Global) -> Arg<'a>
+    ensures rule { rule_of result ≡ spec.hardware_option }
+    ensures local { result.global ≡ false }
+{
+    operand(alloc, "HEX", HARDWARE).long("hardware")
+}
+
+/// `atalk survey`, with its options.
+fn survey_command<'a>(alloc: Global) -> Result<Command<'a>, AllocError>
+    ensures app { IfOk result (λ command. app_of command ≡ survey_app) }
+    ensures local { IfOk result (λ command. (fields_of command).has_globals ≡ false) }
+{
+    let command = Command::new(alloc, "survey")
+        .about(SURVEY)
+        .after_help(AFTER_COMMAND)
+        .arg(name_option(alloc))?
+        .arg(hardware_option(alloc))?
+        .arg(log_flag(alloc))?;
+    with_explain(alloc, command)
+}
+
+/// The flag with a name, which an option of the same letters sets.
+fn flag<'a>(alloc: Global, name: &'a str, long: &'a str, help: &'a str) -> Arg<'a>
+    ensures rule { rule_of result ≡ spec.flag name.entry.now long.entry.now }
+    ensures local { result.global ≡ false }
+{
+    Arg::new(alloc, name)
+        .long(long)
+        .help(help)
+        .action(ArgAction::SetTrue)
+}
+
+/// `--count COUNT`.
+fn count_option<'a>(alloc: Global) -> Arg<'a>
+    ensures rule { rule_of result ≡ spec.count_option }
+    ensures local { result.global ≡ false }
+{
+    Arg::new(alloc, "COUNT")
+        .long("count")
+        .help(COUNT)
+        .action(ArgAction::Set)
+}
+
+/// `atalk ask QUESTION..`, with the station that asks.
+fn asking_command<'a>(alloc: Global) -> Result<Command<'a>, AllocError>
+    ensures app { IfOk result (λ command. app_of command ≡ spec.asking_app) }
+    ensures local { IfOk result (λ command. (fields_of command).has_globals ≡ false) }
+{
+    Command::new(alloc, "ask")
+        .about(ASK)
+        .after_help(AFTER_COMMAND)
+        .arg(name_option(alloc))?
+        .arg(hardware_option(alloc))?
+        .arg(operands(alloc, "QUESTION", QUESTION))
+}
+
+/// `atalk ask QUESTION..`, with its options.
+fn ask_command<'a>(alloc: Global) -> Result<Command<'a>, AllocError>
+    ensures app { IfOk result (λ command. app_of command ≡ ask_app) }
+    ensures local { IfOk result (λ command. (fields_of command).has_globals ≡ false) }
+{
+    let command = asking_command(alloc)?
+        .arg(flag(alloc, "LOCAL", "local", LOCAL))?
+        .arg(flag(alloc, "MINE", "mine", MINE))?
+        .arg(count_option(alloc))?;
+    with_telling(alloc, command)
+}
+
 /// `atalk`, with its commands for images.
 fn image_commands<'a>(alloc: Global) -> Result<Command<'a>, AllocError>
     ensures { IfOk result (λ command. app_of command ≡ images_app) }
@@ -347,11 +426,20 @@ fn table_commands<'a>(alloc: Global) -> Result<Command<'a>, AllocError>
         .subcommand(draw_command(alloc)?)
 }
 
-/// `atalk`, with its commands.
-pub(crate) fn atalk_command<'a>(alloc: Global) -> Result<Command<'a>, AllocError>
-    ensures { IfOk result (λ command. app_of command ≡ atalk_app) }
+/// `atalk`, with its commands but those that ask.
+fn cable_commands<'a>(alloc: Global) -> Result<Command<'a>, AllocError>
+    ensures { IfOk result (λ command. app_of command ≡ cables_app) }
 {
     table_commands(alloc)?
         .subcommand(join_command(alloc)?)?
         .subcommand(route_command(alloc)?)
+}
+
+/// `atalk`, with its commands.
+pub(crate) fn atalk_command<'a>(alloc: Global) -> Result<Command<'a>, AllocError>
+    ensures { IfOk result (λ command. app_of command ≡ atalk_app) }
+{
+    cable_commands(alloc)?
+        .subcommand(survey_command(alloc)?)?
+        .subcommand(ask_command(alloc)?)
 }

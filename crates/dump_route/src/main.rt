@@ -26,8 +26,10 @@ use text::{Output, put_hex};
 #[derive(Drop)]
 struct Nobody;
 
-impl Watch for Nobody {
-    fn ticked(&mut self, _router: &CabledRouter<Routes>, _ticks: u64, _dropped: u64) {}
+impl Watch<CabledRouter<Routes>> for Nobody {
+    fn ticked(&mut self, _station: &CabledRouter<Routes>, _time: u64, _ticks: u64, _dropped: u64) {}
+
+    fn heard(&mut self, _station: &CabledRouter<Routes>, _time: u64, _bytes: &[u8]) {}
 }
 
 /// The plan in a file.
@@ -79,7 +81,7 @@ fn run<I: Read, W: Write + Drop>(
     let mut stream = Stream::new(begun.routing, output, Nobody);
     stream.begin(begun.cables.as_slice())?;
     stream.run(alloc, input)?;
-    image_line(alloc, plan, asked.router, stream.routing.router())
+    image_line(alloc, plan, asked.router, stream.routing.station())
 }
 
 /// Runs what the arguments ask for.

@@ -56,5 +56,5 @@ router_first peers cables r = record {
 }
 
 -- the same, over a capture of which nothing was read
-abbrev pub routing_first : Peers → List Cable → Router → List Given → Routed
+abbrev pub routing_first : Peers → List Cable → Router → List Given → Routed Running
 routing_first peers cables r names = at_first (map (called_as names) r.port) (router_first peers cables r)

@@ -19,7 +19,7 @@ use std::alloc::Global;
 /// A router over a capture, as it begins, and the cables of its ports, in order.
 #[derive(Drop)]
 pub struct Begun {
-    pub routing: Routing,
+    pub routing: Routing<CabledRouter<Routes>>,
     pub cables: Vec<Cable>,
 }
 

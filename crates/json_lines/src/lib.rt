@@ -5,7 +5,9 @@
 mod members;
 mod objects;
 mod refusals;
+mod told_answers;
 mod writer;
 
 pub use refusals::{note, refusal};
+pub use told_answers::{NamedService, ToldRange, echo, range, service, silence, zone};
 pub use writer::JsonLines;

@@ -20,34 +20,6 @@ use rtmp::{Nonextended, RouteTable};
 use station::frames::read_datagram;
 use station::{Heard, Kind, Outputs};
 
-/// Receives a datagram by the router's reaction to it, and learns from it, from nonextended tuples as
-/// said. Error: `Memory`; neither the router nor the outputs change then.
-fn hear_by_reaction<T: RouteTable>(
-    router: &mut Router<T>,
-    heard: &Heard<'_>,
-    view: &View<'_>,
-    nonextended: Nonextended,
-    outputs: &mut Outputs,
-) -> Result<(), Error>
-    requires { heard.now.port < length router.old.ports }
-    ensures ok { OnOk result
-        (PutsOut (length router.old.ports) outputs.old.items outputs.new.items (λ added.
-        added ≡ (spec.heard_datagram router.old (hearing heard.now) (Some view.now)).0)) }
-    ensures after { OnOk result (router.new ≡ taught_as nonextended router.old
-        (spec.heard_datagram router.old (hearing heard.now) (Some view.now)).1
-        (ended_datagram router.old (hearing heard.now) (Some view.now))) }
-    ensures ports_stay { length router.new.ports ≡ length router.old.ports }
-    ensures refused { IsOkUnless result Error.Memory }
-    ensures router_stays { OnErr result (router.new ≡ router.old) }
-    ensures outputs_stay { OnErr result (outputs.new.items ≡ outputs.old.items) }
-{
-    let reaction = router.react(heard, view)?;
-    // Room for the outputs is made first: once the router has learned, nothing is refused.
-    outputs.room(reaction.count())?;
-    teach_ended(router, reaction.ended, view, nonextended)?;
-    router.follow(reaction, outputs)
-}
-
 /// Receives a datagram on one of the ports: the router handles it, and learns from it, from
 /// nonextended tuples as said. Error: `Memory`; neither the router nor the outputs change then.
 #[inline(always)]
@@ -75,7 +47,11 @@ pub(crate) fn hear_datagram<T: RouteTable>(
     if course.ending.is_none() {
         return router.carry(course.step, view, outputs);
     }
-    hear_by_reaction(router, heard, view, nonextended, outputs)
+    let reaction = router.react(course, view)?;
+    // Room for the outputs is made first: once the router has learned, nothing is refused.
+    outputs.room(reaction.count())?;
+    teach_ended(router, reaction.ended, view, nonextended)?;
+    router.follow(reaction, outputs)
 }
 
 /// Receives a frame on one of the ports: the router handles it, and learns from it, from

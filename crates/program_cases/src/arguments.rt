@@ -3,7 +3,7 @@
 use at_base::Error;
 use case_words::{Answer, Stop, Words, put_text};
 use clap::error::ErrorKind;
-use command_line::{Job, Request, Route, Source, read_arguments};
+use command_line::{Job, Request, Route, Source, Station, read_arguments};
 use std::alloc::{AllocError, Global};
 
 fn put_source(text: &mut String, source: Source<'_>) -> Result<(), AllocError> {
@@ -33,56 +33,68 @@ fn put_route(text: &mut String, route: Route<'_>) -> Result<(), AllocError> {
     put_word(text, "router", Some(route.router))?;
     put_word(text, "image to", route.image)?;
     put_word(text, "every", route.every)?;
-    if route.log {
-        write!(text, " log")?;
+    put_flag(text, "log", route.log)
+}
+
+fn put_station(text: &mut String, what: &str, it: Station<'_>) -> Result<(), AllocError> {
+    write!(text, "{what}")?;
+    put_word(text, "on", Some(it.cable))?;
+    put_word(text, "hardware", Some(it.hardware))
+}
+
+fn put_flag(text: &mut String, what: &str, given: bool) -> Result<(), AllocError> {
+    if given {
+        write!(text, " {what}")?;
     }
     Ok(())
 }
 
+/// Appends what a job is called, the source that it reads, and the file for its image or the word for
+/// its ways, if it has one.
+fn put_one(
+    text: &mut String,
+    what: &str,
+    source: Source<'_>,
+    to: &str,
+    word: Option<&str>,
+) -> Result<(), AllocError> {
+    write!(text, "{what}")?;
+    put_source(text, source)?;
+    put_word(text, to, word)
+}
+
 fn put_job(text: &mut String, job: Job<'_>) -> Result<(), AllocError> {
     match job {
-        Job::Audit(image) => {
-            write!(text, "audit")?;
-            put_source(text, image)?;
-        }
+        Job::Audit(image) => put_one(text, "audit", image, "", None),
         Job::Trace(image, script, capture) => {
-            write!(text, "trace")?;
-            put_source(text, image)?;
+            put_one(text, "trace", image, "", None)?;
             put_source(text, script)?;
-            put_word(text, "capture to", capture)?;
+            put_word(text, "capture to", capture)
         }
         Job::Play(file, to, version, capture) => {
-            write!(text, "play")?;
-            put_source(text, file)?;
-            put_word(text, "image to", to)?;
+            put_one(text, "play", file, "image to", to)?;
             if let Some(version) = version {
                 let number = version.number();
                 write!(text, " version {number}")?;
             }
-            put_word(text, "capture to", capture)?;
+            put_word(text, "capture to", capture)
         }
-        Job::Make(file, to) => {
-            write!(text, "make")?;
-            put_source(text, file)?;
-            put_word(text, "image to", to)?;
+        Job::Make(file, to) => put_one(text, "make", file, "image to", to),
+        Job::Show(image) => put_one(text, "show", image, "", None),
+        Job::Draw(image, to) => put_one(text, "draw", image, "ways to", to),
+        Job::Join(image, to) => put_one(text, "join", image, "image to", Some(to)),
+        Job::Route(route) => put_route(text, route),
+        Job::Survey(station, log) => {
+            put_station(text, "survey", station)?;
+            put_flag(text, "log", log)
         }
-        Job::Show(image) => {
-            write!(text, "show")?;
-            put_source(text, image)?;
+        Job::Ask(station, local, mine, count) => {
+            put_station(text, "ask", station)?;
+            put_flag(text, "local", local)?;
+            put_flag(text, "mine", mine)?;
+            put_word(text, "count", count)
         }
-        Job::Draw(image, to) => {
-            write!(text, "draw")?;
-            put_source(text, image)?;
-            put_word(text, "ways to", to)?;
-        }
-        Job::Join(image, to) => {
-            write!(text, "join")?;
-            put_source(text, image)?;
-            put_word(text, "image to", Some(to))?;
-        }
-        Job::Route(route) => put_route(text, route)?,
     }
-    Ok(())
 }
 
 fn put_request(text: &mut String, request: &Request<'_>) -> Result<(), AllocError> {
@@ -92,6 +104,9 @@ fn put_request(text: &mut String, request: &Request<'_>) -> Result<(), AllocErro
     }
     for cable in &request.cables {
         put_word(text, "cable", Some(cable))?;
+    }
+    for word in &request.question {
+        put_word(text, "asked", Some(word))?;
     }
     put_word(text, "explain", request.explain)?;
     if request.quiet {

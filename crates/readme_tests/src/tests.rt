@@ -20,6 +20,7 @@ mod of_pcapng;
 mod of_port;
 mod of_router;
 mod of_rtmp;
+mod of_survey;
 mod of_text;
 mod of_zip_zones;
 
@@ -46,6 +47,7 @@ enum Example {
     Port,
     Router,
     Rtmp,
+    Survey,
     Text,
     ZipZones,
 }
@@ -70,6 +72,7 @@ fn holds(alloc: Global, example: Example) -> Result<bool, Error> {
         Example::Port => of_port::a_datagram_waits(alloc),
         Example::Router => of_router::a_router_hands_on(alloc),
         Example::Rtmp => of_rtmp::the_way_is_found(alloc),
+        Example::Survey => of_survey::it_listens_for_sixty_ticks(alloc),
         Example::Text => of_text::a_line_has_an_address_and_bytes(alloc),
         Example::ZipZones => of_zip_zones::the_cable_of_blue_is_found(alloc),
     }
@@ -116,6 +119,7 @@ fn stations_choose_addresses_send_and_hand_on(rt: HostRuntime) {
         Example::EndNode,
         Example::Router,
         Example::Cabled,
+        Example::Survey,
     ];
     assert_eq!(rt; first_wrong(rt.alloc(), &examples), None);
 }

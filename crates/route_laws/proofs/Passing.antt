@@ -13,6 +13,7 @@ use Rattle.at_base.specs.declared.address.Addr.{Addr}
 use Rattle.atp.specs.Answers.{bytes_of_all}
 use Rattle.atp.specs.InPlace.{transaction_in}
 use Rattle.atp.specs.declared.request.Request.{Request as AtpRequest}
+use Rattle.cabled.specs.Acting.{Event, Tick, Heard}
 use Rattle.cabled.specs.Asked.{answered, as_data, asked_by_datagram, asked_by_ending, asked_by_kind, packets_asked}
 use Rattle.cabled.specs.Steps.{Running, answers_to, heard_on, hearing_of, link_at, outputs_for}
 use Rattle.cabled.specs.declared.peers.Peers.{Peers}
@@ -45,7 +46,6 @@ use Rattle.router.specs.declared.course.Ending.{Ending}
 use Rattle.router.specs.declared.course.Step.{Step}
 use Rattle.router.specs.declared.course.Step.TheVariants as step
 use Rattle.router.specs.declared.request.Request.{Request}
-use Rattle.routing.specs.Events.{Event, Tick, Heard}
 use Rattle.rtmp.specs.Data.{routing_data}
 use Rattle.rtmp.specs.Requests.{request_in}
 use Rattle.rtmp.specs.declared.request.Request.{Request as RoutesRequest}

@@ -10,8 +10,9 @@ use Rattle.aarp.specs.declared.packet.Function.TheVariants.{Request, Response, P
 use Rattle.aarp.specs.declared.packet.Packet.{Packet}
 use Rattle.at_base.specs.declared.address.Addr.{Addr}
 use Rattle.at_base.specs.declared.address.Hw.{Hw}
+use Rattle.cabled.specs.Acting.{Event, Tick, Heard}
 use Rattle.cabled.specs.Putting.{Put, all_asked, all_dressed, asked_again, asked_by, datagram_by, released_by, with_tick}
-use Rattle.cabled.specs.Steps.{Running, called, called_from, doubted, heard_by, hearing_at, is_another, outputs_for, packet_of, put_for, told, told_at, told_after}
+use Rattle.cabled.specs.Steps.{Running, called, called_from, doubted, heard_by, hearing_at, is_another, outputs_for, packet_of, put_for, step, told, told_at, told_after}
 use Rattle.cabled.specs.declared.peers.Peers.{Peers}
 use Rattle.cabled.specs.declared.peers.Peers.TheVariants.{Played, Real}
 use Rattle.live_router.specs.Living.{Living}
@@ -20,7 +21,6 @@ use Rattle.port.specs.Ports.{Ported}
 use Rattle.route_laws.proofs.Counting.{count_both, count_filter, count_flat, count_split}
 use Rattle.route_laws.proofs.Dressing.{all_counted, at_hand, set_counted}
 use Rattle.route_laws.specs.Carrying.{datagram_in, datagrams_in, made_for, made_in, outputs_heard, passed_for, passed_in, waiting_at, waiting_in}
-use Rattle.routing.specs.Events.{Event, Tick, Heard, step}
 use Rattle.station.specs.Hearing.{Hearing}
 use Rattle.station.specs.Lawful.{count}
 use Rattle.station.specs.declared.output.Output.{Output}

@@ -2,7 +2,8 @@
 use Rattle.std.specs.Prelude.{◌≡◌, ◌⊎◌, ℕ, List, [], ◌∷◌, ◌++◌, map, Option, Some, None, option_to_list}
 use Rattle.std.specs.List.{flat_map}
 use Rattle.cabled.specs.Putting.{Put}
-use Rattle.cabled.specs.Steps.{Running, hearing_at, outputs_for}
+use Rattle.cabled.specs.Acting.{Acting, Event, Tick, Heard}
+use Rattle.cabled.specs.Steps.{Running, hearing_at, outputs_for, router_acts, step}
 use Rattle.cabled.specs.declared.peers.Peers.{Peers}
 use Rattle.capture_feed.specs.declared.clock.Clock.{Clock}
 use Rattle.live_router.specs.Living.{Living}
@@ -10,7 +11,7 @@ use Rattle.live_router.specs.Ticking.{ticked_live}
 use Rattle.pcapng.specs.Sections.{Told}
 use Rattle.port.specs.Ports.{Ported}
 use Rattle.router.specs.Forwarding.{onward}
-use Rattle.routing.specs.Events.{Event, Tick, Heard, clock_after, events_of, ports_after, step}
+use Rattle.routing.specs.Events.{clock_after, events_of, ports_after}
 use Rattle.routing.specs.Run.{Routed}
 use Rattle.routing.specs.Streams.{answer_bytes, event_bytes, time_of}
 use Rattle.routing.specs.declared.called.Called.{Called}
@@ -92,10 +93,10 @@ brought_by (Heard k f) = one_hop_more f.kind f.packet
 
 -- ---- Some events, one after the other
 
--- the router after some events
-abbrev pub after_all : Running → List Event → Running
-after_all r [] = r
-after_all r (e ∷ es) = after_all (step r e).1 es
+-- a station after some events
+abbrev pub after_all : {S : Type 0} → Acting S → S → List Event → S
+after_all acts s [] = s
+after_all acts s (e ∷ es) = after_all acts (acts.step s e).1 es
 
 -- the datagrams that are put for some events
 abbrev pub all_put : Running → List Event → List (List ℕ)
@@ -112,9 +113,9 @@ abbrev pub all_brought : List Event → List (List ℕ)
 all_brought es = flat_map brought_by es
 
 -- the blocks of what is put for some events at a time
-abbrev pub all_bytes : ℕ → Running → List Event → List ℕ
-all_bytes time r [] = []
-all_bytes time r (e ∷ es) = event_bytes time r e ++ all_bytes time (step r e).1 es
+abbrev pub all_bytes : {S : Type 0} → Acting S → ℕ → S → List Event → List ℕ
+all_bytes acts time s [] = []
+all_bytes acts time s (e ∷ es) = event_bytes acts time s e ++ all_bytes acts time (acts.step s e).1 es
 
 -- These events are some of those, in order.
 abbrev pub AreSome : List Event → List Event → Type 0
@@ -132,7 +133,7 @@ events_in calls ports clock (t ∷ ts) =
 -- what is written for some blocks, each with those of its events that weren't dropped
 abbrev pub run_bytes : Running → List (Told × List Event) → List ℕ
 run_bytes r [] = []
-run_bytes r (b ∷ bs) = all_bytes (time_of b.0) r b.1 ++ answer_bytes b.0 ++ run_bytes (after_all r b.1) bs
+run_bytes r (b ∷ bs) = all_bytes router_acts (time_of b.0) r b.1 ++ answer_bytes b.0 ++ run_bytes (after_all router_acts r b.1) bs
 
 -- the events of some blocks that weren't dropped, in order
 abbrev pub kept_in : List (Told × List Event) → List Event
@@ -140,9 +141,9 @@ kept_in bs = flat_map (λ b. b.1) bs
 
 -- A router ran over some blocks, and wrote these bytes: of the events that they bring it dropped some, and what is written is
 -- what it puts for the others.
-pub record HasKept (m after : Routed) (ts : List Told) (bytes : List ℕ) : Type 0 where
+pub record HasKept (m after : Routed Running) (ts : List Told) (bytes : List ℕ) : Type 0 where
   pub blocks : List (Told × List Event)
   pub all : map (λ b. b.0) blocks ≡ ts
   pub some : AreSome (kept_in blocks) (events_in m.calls m.ports m.clock ts)
-  pub written : bytes ≡ run_bytes m.router blocks
-  pub router : after.router ≡ after_all m.router (kept_in blocks)
+  pub written : bytes ≡ run_bytes m.station blocks
+  pub router : after.station ≡ after_all router_acts m.station (kept_in blocks)

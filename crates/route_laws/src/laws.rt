@@ -1,23 +1,25 @@
 //! The laws. Each law is the contract of a function that does nothing.
 
 ghost use Rattle.std.specs.Prelude.{◌≡◌, ◌≤◌, ◌+◌, ◌⊎◌, [], Bool, List, None, Option, ℕ};
-ghost use Rattle.cabled.specs.Steps.{Running, hearing_at};
+ghost use Rattle.cabled.specs.Acting.{Event, Heard};
+ghost use Rattle.cabled.specs.Steps.{Running, hearing_at, router_acts, step};
 ghost use Rattle.capture_feed.specs.Stages.{Standing, coming, pending};
 ghost use Rattle.ethertalk.specs.Frames.{Framed};
 ghost use Rattle.pcapng.specs.Sections.{Told};
 ghost use Rattle.route_laws.specs.Carrying.{HasKept, after_all, all_brought, all_made, all_put};
 ghost use Rattle.route_laws.specs.Carrying.{brought_by, passed_for, waiting_in};
-ghost use Rattle.routing.specs.Events.{Event, Heard, step};
 ghost use Rattle.routing.specs.Run.{HaveHeard, Routed, SoFar};
 ghost use Rattle.station.specs.Lawful.{count};
 
+use cabled::Cabled;
+
 /// Two runs that began alike, over the same bytes, write the same and end alike, however the bytes were
-/// cut, if neither dropped an event and each was at the end of what it had read: what a router writes
+/// cut, if neither dropped an event and each was at the end of what it had read: what a station writes
 /// is one function of how it began and of what it reads.
-pub fn one_run()
-    ensures { (m a b : Routed) (bytes kept left : List ℕ) (last end : Standing)
-        (u v x y : Option (List ℕ)) → (s : SoFar m u bytes a v last kept)
-        → (t : SoFar m x bytes b y end left)
+pub fn one_run<C: Cabled>()
+    ensures { (m a b : Routed C) (bytes kept left : List ℕ) (last end : Standing)
+        (u v x y : Option (List ℕ)) → (s : SoFar C.acts m u bytes a v last kept)
+        → (t : SoFar C.acts m x bytes b y end left)
         → coming last kept ≡ pending → coming end left ≡ pending
         → a.dropped ≡ 0 → b.dropped ≡ 0 → (s.due ≡ t.due) × (a ≡ b) }
 {}
@@ -42,7 +44,7 @@ pub fn passed_once()
 /// end.
 pub fn carried()
     ensures { (r : Running) (es : List Event) (test : List ℕ → Bool)
-        → count test (all_put r es) + count test (waiting_in (after_all r es).ports)
+        → count test (all_put r es) + count test (waiting_in (after_all router_acts r es).ports)
         ≤ count test (waiting_in r.ports) + count test (all_made r es)
         + count test (all_brought es) }
 {}
@@ -50,6 +52,6 @@ pub fn carried()
 /// What a router wrote for the blocks of a capture is what it puts for the events that they bring, one
 /// after the other, without those that were dropped; and so the law on events speaks of captures.
 pub fn kept()
-    ensures { (m after : Routed) (ts : List Told) (bytes : List ℕ)
-        → HaveHeard m ts bytes after → HasKept m after ts bytes }
+    ensures { (m after : Routed Running) (ts : List Told) (bytes : List ℕ)
+        → HaveHeard router_acts m ts bytes after → HasKept m after ts bytes }
 {}

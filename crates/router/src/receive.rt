@@ -5,12 +5,12 @@ ghost use Rattle.std.specs.Prelude.{IfOk, IfSome, IsOk, IsOkUnless, OnErr, OnOk,
 ghost use Rattle.std.specs.Option.{unwrap_or};
 ghost use Rattle.station.specs.Hearing.{hearing};
 ghost use Rattle.station.specs.Lawful.{AreLawful, IsGood, PutsOut, is_made};
-ghost use Rattle.router.specs.Answers.{heard_datagram, may_ask};
-ghost use Rattle.router.specs.Ending.{ended_datagram};
+ghost use Rattle.router.specs.Answers.{followed, heard_datagram, may_ask};
+ghost use Rattle.router.specs.Ending.{ended_by};
 ghost use Rattle.router.specs.Forwarding as spec;
-ghost use Rattle.router.specs.Forwarding.{IsBy, IsNear};
+ghost use Rattle.router.specs.Forwarding.{IsBy, IsCourse, IsNear};
 
-use crate::course::Step;
+use crate::course::{Course, Step};
 use crate::router::Router;
 use at_base::Error;
 use atp::Responder;
@@ -79,30 +79,28 @@ fn put_out(outputs: &mut Outputs, fate: Option<Output>, made: Vec<Output>)
 }
 
 impl<T: RouteTable> Router<T> {
-    /// The router's reaction to the datagram of a frame that was received on one of its ports. It
-    /// changes nothing; `follow` carries it out. Error: `Memory`.
+    /// The router's reaction to a datagram that took this course. It changes nothing; `follow` carries
+    /// it out. Error: `Memory`.
     ///
     /// Inside AppleTalk, the chapter on DDP.
-    pub fn react(&self, heard: &Heard<'_>, view: &View<'_>) -> Result<Reaction, Error>
-        requires { heard.now.port < length self.now.ports }
+    pub fn react(&self, course: Course, view: &View<'_>) -> Result<Reaction, Error>
+        requires { IsCourse (length self.now.ports) view.now.hops course }
         ensures outputs { IfOk result (λ x. option_to_list x.fate ++ x.made.items
-            ≡ (heard_datagram self.now (hearing heard.now) (Some view.now)).0) }
+            ≡ (followed self.now course view.now).0) }
         ensures holds { IfOk result (λ x.
             record self.now { requests = unwrap_or x.responder self.now.requests }
-            ≡ (heard_datagram self.now (hearing heard.now) (Some view.now)).1) }
+            ≡ (followed self.now course view.now).1) }
         ensures lawful { IfOk result (λ x.
             AreLawful (length self.now.ports) (option_to_list x.fate ++ x.made.items)) }
         ensures ended { IfOk result (λ x. option_map (λ p. (p, view.now)) x.ended
-            ≡ ended_datagram self.now (hearing heard.now) (Some view.now)) }
+            ≡ ended_by course.ending view.now) }
         ensures inside { IfOk result (λ x. IfSome x.ended (λ p. p < length self.now.ports)) }
         // Where nothing is put out, no memory is needed, except for requests for names and for
         // zone lists.
-        ensures silent { may_ask view.now ≡ false
-            → (heard_datagram self.now (hearing heard.now) (Some view.now)).0 ≡ []
+        ensures silent { may_ask view.now ≡ false → (followed self.now course view.now).0 ≡ []
             → IsOk result }
         ensures refused { IsOkUnless result Error.Memory }
     {
-        let course = self.course(heard.port, heard.link, view.hops(), view.target());
         let handled = self.handle(course.ending, view)?;
         let fate = fate(*self.ports.allocator(), course.step, view)?;
         Ok(Reaction {
@@ -181,30 +179,6 @@ impl<T: RouteTable> Router<T> {
         Ok(())
     }
 
-    /// Receives a datagram by the reaction to it. Error: `Memory`; neither the
-    /// router nor the outputs change then.
-    fn hear_by_reaction(
-        &mut self,
-        heard: &Heard<'_>,
-        view: &View<'_>,
-        outputs: &mut Outputs,
-    ) -> Result<(), Error>
-        requires { heard.now.port < length self.old.ports }
-        ensures ok { OnOk result
-            (PutsOut (length self.old.ports) outputs.old.items outputs.new.items (λ added.
-            (added, self.new) ≡ heard_datagram self.old (hearing heard.now) (Some view.now))) }
-        ensures ports_stay { self.new.ports ≡ self.old.ports }
-        ensures silent { may_ask view.now ≡ false
-            → (heard_datagram self.old (hearing heard.now) (Some view.now)).0 ≡ []
-            → IsOk result }
-        ensures refused { IsOkUnless result Error.Memory }
-        ensures station_stays { OnErr result (self.new ≡ self.old) }
-        ensures outputs_stay { OnErr result (outputs.new.items ≡ outputs.old.items) }
-    {
-        let reaction = self.react(heard, view)?;
-        self.follow(reaction, outputs)
-    }
-
     /// Receives a datagram on one of the ports. Error: `Memory`; neither the router nor the outputs
     /// change then.
     pub(crate) fn hear_datagram(
@@ -230,6 +204,7 @@ impl<T: RouteTable> Router<T> {
         if course.ending.is_none() {
             return self.carry(course.step, view, outputs);
         }
-        self.hear_by_reaction(heard, view, outputs)
+        let reaction = self.react(course, view)?;
+        self.follow(reaction, outputs)
     }
 }

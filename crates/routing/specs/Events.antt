@@ -1,8 +1,7 @@
--- What a capture brings a router, and what the router does for it.
+-- What a capture brings a station.
 use Rattle.std.specs.Prelude.{ℕ, Bool, not, ◌&&◌, List, [], ◌∷◌, ◌++◌, Option, Some, None, replicate, if◌then◌else◌}
 use Rattle.at_base.specs.Reading.{read, value_of}
-use Rattle.cabled.specs.Putting.{Put}
-use Rattle.cabled.specs.Steps.{Running, heard, ticked}
+use Rattle.cabled.specs.Acting.{Event, Heard, Tick}
 use Rattle.capture_feed.specs.Clocks.{after, ticks_by}
 use Rattle.capture_feed.specs.declared.clock.Clock.{Clock}
 use Rattle.ethertalk.specs.Frames.{Framed, faults, frame}
@@ -10,16 +9,6 @@ use Rattle.pcapng.specs.Packets.{Packed}
 use Rattle.pcapng.specs.Sections.{Told, beats, begins, describes, opens, packs, passes, skips}
 use Rattle.routing.specs.Called.{port_at, port_of, with_port}
 use Rattle.routing.specs.declared.called.Called.{Called}
-
--- What a router hears of: a tick, or a frame on the cable of a port.
-pub data Event : Type 0 where
-  Tick : Event
-  Heard : ℕ → Framed → Event
-
--- what a router puts for an event, and its state after it
-abbrev pub step : Running → Event → List Put × Running
-step r Tick = ticked r
-step r (Heard k f) = heard r k f
 
 -- so many ticks
 abbrev pub ticks : ℕ → List Event

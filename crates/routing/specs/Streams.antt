@@ -1,15 +1,14 @@
--- The capture that a router writes.
+-- The capture that a station writes.
 use Rattle.std.specs.Prelude.{ℕ, false, List, [], ◌∷◌, ◌++◌, Option, Some, None, replicate, slice_get, take}
 use Rattle.std.specs.List.{flat_map}
 use Rattle.at_base.specs.declared.address.Hw.{Hw}
+use Rattle.cabled.specs.Acting.{Acting, Event}
 use Rattle.cabled.specs.Putting.{Put}
-use Rattle.cabled.specs.Steps.{Running}
 use Rattle.ethertalk.specs.Frames.{max_bytes}
 use Rattle.pcapng.specs.Captures.{heartbeat_bytes, interface_bytes, packet_bytes, section_bytes}
 use Rattle.pcapng.specs.Sections.{Told, beats, begins, describes, opens, packs, passes, skips}
 use Rattle.pcapng.specs.declared.packet.Packet.{Packet}
 use Rattle.port.specs.Ports.{Ported}
-use Rattle.routing.specs.Events.{Event, step}
 use Rattle.routing.specs.declared.cable.Cable.{Cable}
 
 -- the hardware address of a port, if there is such a port
@@ -36,9 +35,9 @@ put_bytes ports time p = packet_bytes (packet_put ports time p) (take max_bytes 
 abbrev pub puts_bytes : List Ported → ℕ → List Put → List ℕ
 puts_bytes ports time ps = flat_map (put_bytes ports time) ps
 
--- the blocks of what a router puts for an event at a time
-abbrev pub event_bytes : ℕ → Running → Event → List ℕ
-event_bytes time r e = puts_bytes (step r e).1.ports time (step r e).0
+-- the blocks of what a station puts for an event at a time
+abbrev pub event_bytes : {S : Type 0} → Acting S → ℕ → S → Event → List ℕ
+event_bytes acts time s e = puts_bytes (acts.ports (acts.step s e).1) time (acts.step s e).0
 
 -- a heartbeat is answered by one
 abbrev pub answer_bytes : Told → List ℕ

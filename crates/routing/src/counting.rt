@@ -1,7 +1,8 @@
-//! A router that counts what it drops.
+//! A station that counts what it drops.
 
 ghost use Rattle.std.specs.Prelude.{◌≡◌, ◌∷◌, [], OnOk};
-ghost use Rattle.routing.specs.Events.{Heard, Tick, ticks};
+ghost use Rattle.cabled.specs.Acting.{Heard, Tick};
+ghost use Rattle.routing.specs.Events.{ticks};
 ghost use Rattle.routing.specs.Run.{Happened};
 ghost use Rattle.routing.specs.Streams.{puts_bytes};
 ghost use Rattle.text.specs.Going.{Goes};
@@ -11,71 +12,70 @@ ghost use Rattle.text.specs.Writing.{Prints};
 use crate::printing::print_puts;
 use crate::watch::Watch;
 use at_base::Error;
-use cabled::{CabledRouter, Puts};
+use cabled::{Cabled, Puts};
 use ethertalk::Frame;
-use rtmp::Routes;
 use std::alloc::Global;
 use std::io::Write;
 use std::marker::Model;
 use text::Output;
 
-/// A router, and how many events it dropped, since there was no memory for them.
+/// A station, and how many events it dropped, since there was no memory for them.
 #[derive(Drop)]
-pub(crate) struct Counting {
-    router: CabledRouter<Routes>,
+pub(crate) struct Counting<C> {
+    station: C,
     puts: Puts,
     dropped: u64,
     ticks: u64,
 }
 
-impl Model for Counting {
+impl<C> Model for Counting<C> {
     ghost use Rattle.std.specs.Prelude.{◌≡◌, []};
     ghost use Rattle.routing.specs.Run.{Counted};
 
-    ghost Value = { Counted };
+    ghost Value = { Counted C };
 
-    ghost view = { λ c. record { router = c.router; dropped = c.dropped } };
+    ghost view = { λ c. record { station = c.station; dropped = c.dropped } };
 
     ghost invariant = { λ c. c.puts.items ≡ [] };
 }
 
 /// Prints what was put at a time, and forgets it.
 #[inline(always)]
-fn print_all<W: Write>(
+fn print_all<W: Write, C: Cabled>(
     output: &mut Output<W>,
-    router: &CabledRouter<Routes>,
+    station: &C,
     puts: &mut Puts,
     time: u64,
 ) -> Result<(), Error>
     ensures gone { OnOk result (Goes (W.contents output.old.writer) output.old.text.items
-        (puts_bytes router.now.ports time puts.old.items)
+        (puts_bytes (C.acts.ports station.now) time puts.old.items)
         (W.contents output.new.writer) output.new.text.items) }
     ensures prints { Prints output.old.faults output.new.faults result }
     ensures none { puts.new.items ≡ [] }
 {
-    let printed = print_puts(output, router.ports(), time, puts.as_slice());
+    let printed = print_puts(output, station.own_ports(), time, puts.as_slice());
     puts.clear();
     printed
 }
 
-impl Counting {
-    /// A router that has dropped nothing.
-    pub(crate) fn new(alloc: Global, router: CabledRouter<Routes>) -> Counting
-        ensures { result ≡ record { router = router; dropped = 0 } }
+impl<C: Cabled> Counting<C> {
+    /// A station that has dropped nothing.
+    pub(crate) fn new(alloc: Global, station: C) -> Counting<C>
+        ensures { result ≡ record { station = station; dropped = 0 } }
     {
         Counting {
-            router,
+            station,
             puts: Puts::new(alloc),
             dropped: 0,
             ticks: 0,
         }
     }
 
-    /// The router.
-    pub(crate) fn router(&self) -> &CabledRouter<Routes>
-        ensures { result.now ≡ self.now.router }
+    /// The station.
+    pub(crate) fn station(&self) -> &C
+        ensures { result.now ≡ self.now.station }
     {
-        &self.router
+        &self.station
     }
 
     /// How many events were dropped.
@@ -87,13 +87,13 @@ impl Counting {
 
     /// A tick, at a time.
     fn tick<W: Write>(&mut self, output: &mut Output<W>, time: u64) -> Result<(), Error>
-        ensures came { OnOk result (Happened time self.old (Tick ∷ []) self.new
+        ensures came { OnOk result (Happened C.acts time self.old (Tick ∷ []) self.new
             (W.contents output.old.writer) output.old.text.items
             (W.contents output.new.writer) output.new.text.items) }
         ensures prints { Prints output.old.faults output.new.faults result }
     {
-        match self.router.tick(&mut self.puts) {
-            Ok(()) => print_all(output, &self.router, &mut self.puts, time),
+        match self.station.advance(&mut self.puts) {
+            Ok(()) => print_all(output, &self.station, &mut self.puts, time),
             Err(_) => {
                 self.dropped = self.dropped.saturating_add(1);
                 Ok(())
@@ -102,14 +102,14 @@ impl Counting {
     }
 
     /// So many ticks, one after the other.
-    fn pass_all<W: Write, S: Watch>(
+    fn pass_all<W: Write, S: Watch<C>>(
         &mut self,
         output: &mut Output<W>,
         watch: &mut S,
         time: u64,
         count: u16,
     ) -> Result<(), Error>
-        ensures came { OnOk result (Happened time self.old (ticks count) self.new
+        ensures came { OnOk result (Happened C.acts time self.old (ticks count) self.new
             (W.contents output.old.writer) output.old.text.items
             (W.contents output.new.writer) output.new.text.items) }
         ensures prints { Prints output.old.faults output.new.faults result }
@@ -119,20 +119,20 @@ impl Counting {
         }
         self.tick(output, time)?;
         self.ticks = self.ticks.saturating_add(1);
-        watch.ticked(&self.router, self.ticks, self.dropped);
+        watch.ticked(&self.station, time, self.ticks, self.dropped);
         self.pass_all(output, watch, time, count - 1)
     }
 
     /// So many ticks, at a time.
     #[inline(always)]
-    pub(crate) fn pass<W: Write, S: Watch>(
+    pub(crate) fn pass<W: Write, S: Watch<C>>(
         &mut self,
         output: &mut Output<W>,
         watch: &mut S,
         time: u64,
         count: u16,
     ) -> Result<(), Error>
-        ensures came { OnOk result (Happened time self.old (ticks count) self.new
+        ensures came { OnOk result (Happened C.acts time self.old (ticks count) self.new
             (W.contents output.old.writer) output.old.text.items
             (W.contents output.new.writer) output.new.text.items) }
         ensures prints { Prints output.old.faults output.new.faults result }
@@ -144,21 +144,26 @@ impl Counting {
         self.pass_all(output, watch, time, count)
     }
 
-    /// A frame on the cable of a port, at a time.
-    pub(crate) fn hear<W: Write>(
+    /// A frame on the cable of a port, at a time, with these bytes.
+    pub(crate) fn hear<W: Write, S: Watch<C>>(
         &mut self,
         output: &mut Output<W>,
+        watch: &mut S,
         time: u64,
         port: u8,
         frame: &Frame<'_>,
+        bytes: &[u8],
     ) -> Result<(), Error>
-        ensures came { OnOk result (Happened time self.old (Heard port (framed frame.now) ∷ [])
+        ensures came { OnOk result (Happened C.acts time self.old (Heard port (framed frame.now) ∷ [])
             self.new (W.contents output.old.writer) output.old.text.items
             (W.contents output.new.writer) output.new.text.items) }
         ensures prints { Prints output.old.faults output.new.faults result }
     {
-        match self.router.hear(port, frame, &mut self.puts) {
-            Ok(()) => print_all(output, &self.router, &mut self.puts, time),
+        match self.station.receive(port, frame, &mut self.puts) {
+            Ok(()) => {
+                watch.heard(&self.station, time, bytes);
+                print_all(output, &self.station, &mut self.puts, time)
+            }
             Err(_) => {
                 self.dropped = self.dropped.saturating_add(1);
                 Ok(())

@@ -1,5 +1,5 @@
-//! A router that runs over a capture: it hears the frames of one that comes in pieces, and writes what
-//! it puts as another.
+//! A router, or another station with ports on cables that it doesn't own, that runs over a capture: it
+//! hears the frames of one that comes in pieces, and writes what it puts as another.
 #![tactic(auto)]
 
 mod cable;

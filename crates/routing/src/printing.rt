@@ -1,4 +1,4 @@
-//! The capture of what a router puts.
+//! The capture of what a station puts.
 
 ghost use Rattle.std.specs.Prelude.{◌≡◌, ◌≤◌, length, slice_get, take, OnOk};
 ghost use Rattle.std.specs.List.{flat_map};

@@ -1,4 +1,4 @@
-//! A router over a capture, block by block.
+//! A station over a capture, block by block.
 
 ghost use Rattle.std.specs.Prelude.{◌≡◌, ◌≤◌, length, option_map, OnOk};
 ghost use Rattle.at_base.specs.Limits.{max_ports};
@@ -17,37 +17,36 @@ use crate::counting::Counting;
 use crate::interfaces::InterfacePorts;
 use crate::watch::Watch;
 use at_base::Error;
-use cabled::CabledRouter;
+use cabled::Cabled;
 use capture_feed::{Block, Clock};
 use ethertalk::Frame;
 use pcapng::{Seen, print_heartbeat};
-use rtmp::Routes;
 use std::alloc::Global;
 use std::io::Write;
 use std::marker::Model;
 use text::Output;
 
-/// A router over a capture.
+/// A station over a capture.
 #[derive(Drop)]
-pub struct Routing {
+pub struct Routing<C> {
     calls: Vec<Called>,
     ports: InterfacePorts,
     clock: Clock,
-    counting: Counting,
+    counting: Counting<C>,
 }
 
-impl Model for Routing {
+impl<C> Model for Routing<C> {
     ghost use Rattle.std.specs.Prelude.{◌≤◌, length};
     ghost use Rattle.at_base.specs.Limits.{max_ports};
     ghost use Rattle.routing.specs.Run.{Routed};
 
-    ghost Value = { Routed };
+    ghost Value = { Routed C };
 
     ghost view = { λ r. record {
       calls = r.calls.items;
       ports = r.ports;
       clock = r.clock;
-      router = r.counting.router;
+      station = r.counting.station;
       dropped = r.counting.dropped;
     } };
 
@@ -76,63 +75,65 @@ fn frame_in<'a>(seen: &Seen<'a>) -> Option<Frame<'a>>
 }
 
 /// Hears the frame in a packet on the cable of a port, if there is one.
-fn hear_on<W: Write>(
-    counting: &mut Counting,
+fn hear_on<W: Write, C: Cabled, S: Watch<C>>(
+    counting: &mut Counting<C>,
     output: &mut Output<W>,
+    watch: &mut S,
     port: u8,
     seen: &Seen<'_>,
 ) -> Result<(), Error>
-    ensures came { OnOk result (Happened seen.now.time counting.old
+    ensures came { OnOk result (Happened C.acts seen.now.time counting.old
         (events_spec.heard_on port (events_spec.frame_in (packed seen.now))) counting.new
         (W.contents output.old.writer) output.old.text.items
         (W.contents output.new.writer) output.new.text.items) }
     ensures prints { Prints output.old.faults output.new.faults result }
 {
     match frame_in(seen) {
-        Some(frame) => counting.hear(output, seen.time, port, &frame),
+        Some(frame) => counting.hear(output, watch, seen.time, port, &frame, seen.bytes),
         None => Ok(()),
     }
 }
 
 /// Hears a packet on the cable of a port, if it is on one.
-fn hear_packet<W: Write>(
-    counting: &mut Counting,
+fn hear_packet<W: Write, C: Cabled, S: Watch<C>>(
+    counting: &mut Counting<C>,
     output: &mut Output<W>,
+    watch: &mut S,
     port: Option<u8>,
     seen: &Seen<'_>,
 ) -> Result<(), Error>
-    ensures came { OnOk result (Happened seen.now.time counting.old
+    ensures came { OnOk result (Happened C.acts seen.now.time counting.old
         (packet_on port (packed seen.now)) counting.new
         (W.contents output.old.writer) output.old.text.items
         (W.contents output.new.writer) output.new.text.items) }
     ensures prints { Prints output.old.faults output.new.faults result }
 {
     match port {
-        Some(port) => hear_on(counting, output, port, seen),
+        Some(port) => hear_on(counting, output, watch, port, seen),
         None => Ok(()),
     }
 }
 
-impl Routing {
-    /// A router over a capture of which nothing was read. The cables of its ports are called so, in
+impl<C: Cabled> Routing<C> {
+    /// A station over a capture of which nothing was read. The cables of its ports are called so, in
     /// order; the caller ensures that there are at most 16.
-    pub fn new(alloc: Global, router: CabledRouter<Routes>, calls: Vec<Called>) -> Routing
+    pub fn new(alloc: Global, station: C, calls: Vec<Called>) -> Routing<C>
         requires { length calls.items ≤ max_ports }
-        ensures { result ≡ spec.at_first calls.items router }
+        ensures { result ≡ spec.at_first calls.items station }
     {
         Routing {
             calls,
             ports: InterfacePorts::new(),
             clock: Clock::new(),
-            counting: Counting::new(alloc, router),
+            counting: Counting::new(alloc, station),
         }
     }
 
-    /// The router, as it is.
-    pub fn router(&self) -> &CabledRouter<Routes>
-        ensures { result.now ≡ self.now.router }
+    /// The station, as it is.
+    pub fn station(&self) -> &C
+        ensures { result.now ≡ self.now.station }
     {
-        self.counting.router()
+        self.counting.station()
     }
 
     /// How many events were dropped, since there was no memory for them.
@@ -143,13 +144,13 @@ impl Routing {
     }
 
     /// The ticks pass that a time brings.
-    fn pass<W: Write, S: Watch>(
+    fn pass<W: Write, S: Watch<C>>(
         &mut self,
         output: &mut Output<W>,
         watch: &mut S,
         time: u64,
     ) -> Result<(), Error>
-        ensures came { OnOk result (Happened time (spec.counted_in self.old)
+        ensures came { OnOk result (Happened C.acts time (spec.counted_in self.old)
             (ticks (ticks_by self.old.clock time)) (spec.counted_in self.new)
             (W.contents output.old.writer) output.old.text.items
             (W.contents output.new.writer) output.new.text.items) }
@@ -163,31 +164,31 @@ impl Routing {
     }
 
     /// Hears a packet.
-    fn hear_seen<W: Write, S: Watch>(
+    fn hear_seen<W: Write, S: Watch<C>>(
         &mut self,
         output: &mut Output<W>,
         watch: &mut S,
         seen: &Seen<'_>,
     ) -> Result<(), Error>
-        ensures heard { OnOk result (Wrote self.old (packs (packed seen.now)) self.new
+        ensures heard { OnOk result (Wrote C.acts self.old (packs (packed seen.now)) self.new
             (W.contents output.old.writer) output.old.text.items
             (W.contents output.new.writer) output.new.text.items) }
         ensures prints { Prints output.old.faults output.new.faults result }
     {
         self.pass(output, watch, seen.time)?;
         let port = self.ports.port(seen.interface);
-        hear_packet(&mut self.counting, output, port, seen)
+        hear_packet(&mut self.counting, output, watch, port, seen)
     }
 
     /// Hears a heartbeat, and answers it.
-    fn hear_beat<W: Write, S: Watch>(
+    fn hear_beat<W: Write, S: Watch<C>>(
         &mut self,
         output: &mut Output<W>,
         watch: &mut S,
         index: u32,
         time: u64,
     ) -> Result<(), Error>
-        ensures heard { OnOk result (Wrote self.old (beats index time) self.new
+        ensures heard { OnOk result (Wrote C.acts self.old (beats index time) self.new
             (W.contents output.old.writer) output.old.text.items
             (W.contents output.new.writer) output.new.text.items) }
         ensures prints { Prints output.old.faults output.new.faults result }
@@ -196,17 +197,18 @@ impl Routing {
         print_heartbeat(output, time)
     }
 
-    /// Hears what a block says, and writes what is due. The watch is told of each tick.
+    /// Hears what a block says, and writes what is due. The watch is told of each tick, and of each
+    /// frame on the cable of a port.
     ///
     /// Errors: `WriteFault`, only if the writer failed; `Memory`, where the buffer of the output can't
     /// grow. After an error, a part of a block may have been written.
-    pub fn hear<W: Write, S: Watch>(
+    pub fn hear<W: Write, S: Watch<C>>(
         &mut self,
         output: &mut Output<W>,
         watch: &mut S,
         block: &Block<'_>,
     ) -> Result<(), Error>
-        ensures heard { OnOk result (Wrote self.old (told block.now) self.new
+        ensures heard { OnOk result (Wrote C.acts self.old (told block.now) self.new
             (W.contents output.old.writer) output.old.text.items
             (W.contents output.new.writer) output.new.text.items) }
         ensures prints { Prints output.old.faults output.new.faults result }

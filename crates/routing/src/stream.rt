@@ -1,15 +1,16 @@
-//! A run of a router: a capture is read to its end, and another one is written.
+//! A run of a station: a capture is read to its end, and another one is written.
 
 ghost use Rattle.std.specs.Prelude.{◌≡◌, ◌⊎◌, ◌++◌, [], ℕ, Err, List, None, Option, IfErr, OnOk};
-ghost use Rattle.std.specs.Io.KnownBytes.{Appends, IsAtEnd};
+ghost use Rattle.std.specs.Io.KnownBytes.{Appends};
 ghost use Rattle.routing.specs.Streams.{head_bytes};
-ghost use Rattle.routing.specs.Run.{HasRun, IsStopped, Routed, Stands};
+ghost use Rattle.routing.specs.Run.{HasRun, IsStopped, IsThrough, Routed, Stands};
 
 use crate::cable::Cable;
 use crate::printing::print_head;
 use crate::routing::Routing;
 use crate::watch::Watch;
 use at_base::Error;
+use cabled::Cabled;
 use capture_feed::{Block, Feed, Forms, Listen};
 use std::alloc::Global;
 use std::io::{ErrorKind, Read, Write};
@@ -22,11 +23,11 @@ const PIECE: usize = 8_192;
 /// at most 1,548.
 const ROOM: usize = 68_000;
 
-/// A router over a capture, where it writes, and who watches it.
+/// A station over a capture, where it writes, and who watches it.
 #[derive(Drop)]
-pub struct Stream<W, S> {
-    /// The router over the capture.
-    pub routing: Routing,
+pub struct Stream<C, W, S> {
+    /// The station over the capture.
+    pub routing: Routing<C>,
     /// Where it writes what it puts.
     pub output: Output<W>,
     /// Who watches it.
@@ -45,13 +46,13 @@ fn lost(error: Error) -> Error
     }
 }
 
-impl<W: Write, S: Watch> Listen for Stream<W, S> {
+impl<C: Cabled, W: Write, S: Watch<C>> Listen for Stream<C, W, S> {
     ghost use Rattle.std.specs.Prelude.{◌≡◌, None};
     ghost use Rattle.routing.specs.Run.{Hears};
 
-    // Unless writing failed, the router heard the block.
+    // Unless writing failed, the station heard the block.
     ghost heard = { λ before t after. after.failed ≡ None
-        → Hears before.failed before.routing t after.routing
+        → Hears C.acts before.failed before.routing t after.routing
         (W.contents before.output.writer) before.output.text.items
         (W.contents after.output.writer) after.output.text.items };
 
@@ -68,9 +69,9 @@ impl<W: Write, S: Watch> Listen for Stream<W, S> {
     }
 }
 
-impl<W: Write, S: Watch> Stream<W, S> {
-    /// A router over a capture that writes there.
-    pub fn new(routing: Routing, output: Output<W>, watch: S) -> Stream<W, S>
+impl<C: Cabled, W: Write, S: Watch<C>> Stream<C, W, S> {
+    /// A station over a capture that writes there.
+    pub fn new(routing: Routing<C>, output: Output<W>, watch: S) -> Stream<C, W, S>
         ensures { result ≡ record {
           routing = routing;
           output = output;
@@ -108,16 +109,16 @@ impl<W: Write, S: Watch> Stream<W, S> {
     ///
     /// Errors: `BadCapture` of a block that is refused, after what is due; `WriteFault`; `Memory`.
     pub fn take(&mut self, feed: &mut Feed, piece: &[u8]) -> Result<(), Error>
-        ensures took { OnOk result ((m : Routed) (w : Option (List ℕ)) (all : List ℕ)
-            → Stands m w all self.old.failed self.old.output.text.items self.old.routing
+        ensures took { OnOk result ((m : Routed C) (w : Option (List ℕ)) (all : List ℕ)
+            → Stands C.acts m w all self.old.failed self.old.output.text.items self.old.routing
             (W.contents self.old.output.writer) feed.old
-            → Stands m w (all ++ piece.now) self.new.failed self.new.output.text.items
+            → Stands C.acts m w (all ++ piece.now) self.new.failed self.new.output.text.items
             self.new.routing (W.contents self.new.output.writer) feed.new) }
         ensures refused { IfErr result (λ e. (e ≡ Error.Memory) ⊎ (e ≡ Error.WriteFault)
-            ⊎ ((m : Routed) (w : Option (List ℕ)) (all : List ℕ)
-            → Stands m w all self.old.failed self.old.output.text.items self.old.routing
+            ⊎ ((m : Routed C) (w : Option (List ℕ)) (all : List ℕ)
+            → Stands C.acts m w all self.old.failed self.old.output.text.items self.old.routing
             (W.contents self.old.output.writer) feed.old
-            → IsStopped m w (all ++ piece.now) self.new.routing
+            → IsStopped C.acts m w (all ++ piece.now) self.new.routing
             (W.contents self.new.output.writer) e)) }
     {
         let fed = feed.feed(piece, self);
@@ -129,15 +130,15 @@ impl<W: Write, S: Watch> Stream<W, S> {
         fed
     }
 
-    /// Reads the input to its end, and takes in each piece.
+    /// Reads the input to its end, or until the station is done, and takes in each piece.
     #[tactic(auto, using(crate::proofs::Running::run_ended))]
     fn read_all<R: Read>(&mut self, feed: &mut Feed, input: &mut R) -> Result<(), Error>
-        requires { Stands self.old.routing (W.contents self.old.output.writer) []
+        requires { Stands C.acts self.old.routing (W.contents self.old.output.writer) []
             self.old.failed self.old.output.text.items self.old.routing
             (W.contents self.old.output.writer) feed.old }
-        ensures end { OnOk result (IsAtEnd (R.remaining input.new)) }
+        ensures end { OnOk result (IsThrough (C.acts.is_done self.new.routing.station) (R.remaining input.new)) }
         ensures ran { (result ≡ Err Error.Memory) ⊎ (result ≡ Err Error.WriteFault)
-            ⊎ HasRun (R.remaining input.old) (R.remaining input.new) self.old.routing
+            ⊎ HasRun C.acts (R.remaining input.old) (R.remaining input.new) self.old.routing
             (W.contents self.old.output.writer) (W.contents self.new.output.writer)
             self.new.routing result }
     {
@@ -152,6 +153,9 @@ impl<W: Write, S: Watch> Stream<W, S> {
                         Ok(()) => {}
                         Err(error) => return Err(error),
                     }
+                    if self.routing.station().is_done() {
+                        return Ok(());
+                    }
                 }
                 Err(error) => {
                     if error.kind() != ErrorKind::Interrupted {
@@ -163,9 +167,9 @@ impl<W: Write, S: Watch> Stream<W, S> {
         Err(Error::ReadFault)
     }
 
-    /// Runs over the capture that the input has, to its end: each block is heard, and what is due is
-    /// written; after each read of at most 8,192 bytes all that is due for its whole blocks is written
-    /// and flushed. A read that was interrupted is made again. The caller ensures that nothing failed
+    /// Runs over the capture that the input has, to its end or until the station is done: each block is
+    /// heard, and what is due is written; after each read of at most 8,192 bytes all that is due for its
+    /// whole blocks is written and flushed. A read that was interrupted is made again. The caller ensures that nothing failed
     /// before, and that nothing waits in the output.
     ///
     /// Errors: `BadCapture` with the number of the block that is refused, and `ReadFault`, both after
@@ -174,9 +178,9 @@ impl<W: Write, S: Watch> Stream<W, S> {
     pub fn run<R: Read>(&mut self, alloc: Global, input: &mut R) -> Result<(), Error>
         requires sound { self.old.failed ≡ None }
         requires empty { self.old.output.text.items ≡ [] }
-        ensures end { OnOk result (IsAtEnd (R.remaining input.new)) }
+        ensures end { OnOk result (IsThrough (C.acts.is_done self.new.routing.station) (R.remaining input.new)) }
         ensures ran { (result ≡ Err Error.Memory) ⊎ (result ≡ Err Error.WriteFault)
-            ⊎ HasRun (R.remaining input.old) (R.remaining input.new) self.old.routing
+            ⊎ HasRun C.acts (R.remaining input.old) (R.remaining input.new) self.old.routing
             (W.contents self.old.output.writer) (W.contents self.new.output.writer)
             self.new.routing result }
     {

@@ -1,5 +1,6 @@
 //! The bench of a case, with which its commands are carried out.
 
+use crate::askers::{ask_asker, asker_of};
 use crate::asking::ask_user;
 use crate::beginning::{cabled_router_of, live_node_of, live_router_of, node_of, router_of};
 use crate::frames::{Frame, frame_of};
@@ -17,6 +18,7 @@ use router::Router;
 use rtmp::RouteTable;
 use station::ways::straight;
 use std::alloc::Global;
+use survey::Asker;
 
 /// The station of a case, by its kind.
 #[derive(Drop)]
@@ -25,6 +27,7 @@ enum Subject<T: RouteTable> {
     Router(Router<T>),
     LiveRouter(LiveRouter<T>),
     CabledRouter(CabledRouter<T>),
+    Asker(Asker),
     Node(EndNode),
     LiveNode(LiveNode),
 }
@@ -79,6 +82,7 @@ fn subject_of<T: RouteTable>(
     match words.word() {
         "live" => live_subject_of(alloc, plan, words.word()),
         "cabled" => cabled_subject_of(alloc, plan, words.word()),
+        "asks" => Ok(Subject::Asker(asker_of(alloc, &mut words)?)),
         "router" => Ok(Subject::Router(router_of(alloc, plan)?)),
         "node" => Ok(Subject::Node(node_of(alloc, plan)?)),
         _ => Err(Stop::Unclear),
@@ -88,7 +92,7 @@ fn subject_of<T: RouteTable>(
 impl<T: RouteTable> Subject<T> {
     fn hear(&mut self, alloc: Global, frame: &Frame, text: &mut String) -> Answer {
         match self {
-            Subject::Nothing | Subject::CabledRouter(_) => Err(Stop::Unclear),
+            Subject::Nothing | Subject::CabledRouter(_) | Subject::Asker(_) => Err(Stop::Unclear),
             Subject::Router(router) => hear(alloc, router, frame, text),
             Subject::LiveRouter(live) => hear(alloc, live, frame, text),
             Subject::Node(node) => hear(alloc, node, frame, text),
@@ -96,7 +100,7 @@ impl<T: RouteTable> Subject<T> {
         }
     }
 
-    /// Lets a router with its ports on cables hear a frame.
+    /// Lets a station with ports on cables that it doesn't own hear a frame.
     fn hear_frame(
         &mut self,
         alloc: Global,
@@ -106,6 +110,7 @@ impl<T: RouteTable> Subject<T> {
     ) -> Answer {
         match self {
             Subject::CabledRouter(router) => on_cables::hear(alloc, router, first, words, text),
+            Subject::Asker(asker) => on_cables::hear(alloc, asker, first, words, text),
             _ => Err(Stop::Unclear),
         }
     }
@@ -123,6 +128,7 @@ impl<T: RouteTable> Subject<T> {
             Subject::Router(router) => let_pass(alloc, router, number, text),
             Subject::LiveRouter(live) => let_pass(alloc, live, number, text),
             Subject::CabledRouter(router) => on_cables::let_pass(alloc, router, number, text),
+            Subject::Asker(asker) => on_cables::let_pass(alloc, asker, number, text),
             Subject::Node(node) => let_pass(alloc, node, number, text),
             Subject::LiveNode(live) => let_pass(alloc, live, number, text),
         }
@@ -135,6 +141,7 @@ impl<T: RouteTable> Subject<T> {
             Subject::Router(router) => ask_router(router, words, text),
             Subject::LiveRouter(live) => ask_live_router(live, words, text),
             Subject::CabledRouter(router) => ask_router(router.router().router(), words, text),
+            Subject::Asker(asker) => ask_asker(asker, words, text),
             Subject::Node(node) => ask_user(alloc, node, words, text),
             Subject::LiveNode(live) => ask_user(alloc, live, words, text),
         }

@@ -2,6 +2,7 @@
 //! and their state after these. They are carried out twice, with each type of routing table.
 #![tactic(auto)]
 
+mod askers;
 mod asking;
 mod beginning;
 mod bench;

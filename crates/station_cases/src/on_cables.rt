@@ -1,12 +1,11 @@
-//! Routers with their ports on cables: the frames that they hear, and what they put.
+//! Stations with ports on cables that they don't own: the frames that they hear, and what they put.
 
 use crate::frames::on_cable;
 use crate::outputs::put_packet;
 use at_base::{Error, Hw};
-use cabled::{CabledRouter, Carried, Put, Puts};
+use cabled::{Cabled, Carried, Put, Puts};
 use case_words::{Answer, Stop, Words, put_hw};
 use ethertalk::Frame;
-use rtmp::RouteTable;
 use station::Kind;
 use std::alloc::{AllocError, Global};
 
@@ -32,11 +31,11 @@ fn put_lines(text: &mut String, number: Option<u32>, puts: &Puts) -> Result<(), 
     Ok(())
 }
 
-/// Lets a router hear a frame, as `port 0 020000000009 to 020000000001` and then what it carries.
-/// Appends what the router puts.
-pub(crate) fn hear<T: RouteTable>(
+/// Lets a station hear a frame, as `port 0 020000000009 to 020000000001` and then what it carries.
+/// Appends what it puts.
+pub(crate) fn hear<C: Cabled>(
     alloc: Global,
-    router: &mut CabledRouter<T>,
+    station: &mut C,
     first: &[u8],
     mut words: Words<'_>,
     text: &mut String,
@@ -53,28 +52,28 @@ pub(crate) fn hear<T: RouteTable>(
         packet: bytes.as_slice(),
     };
     let mut puts = Puts::new(alloc);
-    router.hear(port, &frame, &mut puts)?;
+    station.receive(port, &frame, &mut puts)?;
     put_lines(text, None, &puts)?;
     Ok(())
 }
 
-/// Advances a router by a tick, with another attempt if an allocation failed.
-fn tick<T: RouteTable>(router: &mut CabledRouter<T>, puts: &mut Puts) -> Result<(), Error> {
-    match router.tick(puts) {
-        Err(Error::Memory) => router.tick(puts),
+/// Advances a station by a tick, with another attempt if an allocation failed.
+fn tick<C: Cabled>(station: &mut C, puts: &mut Puts) -> Result<(), Error> {
+    match station.advance(puts) {
+        Err(Error::Memory) => station.advance(puts),
         answer => answer,
     }
 }
 
-/// Advances a router by a tick, and appends what it puts. Returns how many packets that are.
-pub(crate) fn let_pass<T: RouteTable>(
+/// Advances a station by a tick, and appends what it puts. Returns how many packets that are.
+pub(crate) fn let_pass<C: Cabled>(
     alloc: Global,
-    router: &mut CabledRouter<T>,
+    station: &mut C,
     number: Option<u32>,
     text: &mut String,
 ) -> Result<usize, Stop> {
     let mut puts = Puts::new(alloc);
-    tick(router, &mut puts)?;
+    tick(station, &mut puts)?;
     put_lines(text, number, &puts)?;
     Ok(puts.as_slice().len())
 }

@@ -8,4 +8,4 @@ returns-clause-lawful g c =
     let fate = c.in_ok-fate.ensures {u = tt} in
     let handled = c.in_ok-handled.ensures {u = tt} in
     lawful_with n c.in_ok-fate.fate c.in_ok-handled.handled.made.items fate.other
-    (fate.good n c.course-course.ensures.inside.by) handled.good handled.few
+    (fate.good n c.requires.by) handled.good handled.few

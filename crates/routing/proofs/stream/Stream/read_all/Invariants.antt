@@ -6,7 +6,7 @@ use Rattle.routing.proofs.stream.Stream.read_all.Given as goal
 abbrev pub invariant-loop-turn : goal.invariant-loop-turn
 invariant-loop-turn g l = record {
   taken : (all : List ℕ)
-      × Stands l.initial.self.routing (g.W.Write.contents l.initial.self.output.writer) all l.self.failed l.self.output.text.items l.self.routing
+      × Stands g.C.Cabled.acts l.initial.self.routing (g.W.Write.contents l.initial.self.output.writer) all l.self.failed l.self.output.text.items l.self.routing
       (g.W.Write.contents l.self.output.writer) l.feed
       × Consumes (g.R.Read.remaining l.initial.input) (g.R.Read.remaining l.input) all;
 }

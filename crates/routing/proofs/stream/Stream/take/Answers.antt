@@ -23,7 +23,7 @@ pub returns-clause-took : goal.returns-clause-took
 returns-clause-took g c =
     took c.feed-fed.result c.feed-fed.new.self.refused _ c.feed-fed.ensures.told
     (λ none m w all s.
-    stands_on (λ x. x.failed) (λ x. x.routing) (λ x. g.W.Write.contents x.output.writer) (λ x. x.output.text.items) m w all c.args.piece.now
+    stands_on g.C.Cabled.acts (λ x. x.failed) (λ x. x.routing) (λ x. g.W.Write.contents x.output.writer) (λ x. x.output.text.items) m w all c.args.piece.now
     c.args.self.now c.feed-fed.new.listener c.args.feed.now c.feed-fed.new.self (g.W.Write.contents c.flush.new.self.writer) c.flush.new.self.text.items
     s none (c.feed-fed.ensures.fed s.good) c.in-None.is (c.in_ok-flush.ensures {u = tt}).ok (c.in_ok-flush.ensures {u = tt}).empty)
 
@@ -31,6 +31,6 @@ pub returns-clause-refused : goal.returns-clause-refused
 returns-clause-refused g c =
     stopped c.feed-fed.result c.feed-fed.new.self.refused _ c.feed-fed.ensures.told
     (λ f bad. inr (inr (λ m w all s.
-    stopped_at (λ x. x.failed) (λ x. x.routing) (λ x. g.W.Write.contents x.output.writer) (λ x. x.output.text.items) m w all c.args.piece.now
+    stopped_at g.C.Cabled.acts (λ x. x.failed) (λ x. x.routing) (λ x. g.W.Write.contents x.output.writer) (λ x. x.output.text.items) m w all c.args.piece.now
     c.args.self.now c.feed-fed.new.listener c.args.feed.now c.feed-fed.new.self (g.W.Write.contents c.flush.new.self.writer) c.flush.new.self.text.items
     f s bad (c.feed-fed.ensures.fed s.good) c.in-None.is (c.in_ok-flush.ensures {u = tt}).ok)))

@@ -1,0 +1,6 @@
+pub mod Questions
+pub mod Answers
+pub mod Known
+pub mod Slots
+pub mod Agendas
+pub mod Asking
